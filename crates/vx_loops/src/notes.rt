@@ -35,7 +35,7 @@ pub struct Loops {
 }
 
 impl Loops {
-    ghost use Rattle.std.specs.Prelude.{◌==◌, ◌++◌, ◌∷◌, ◌||◌, Bool, List, [], true, false, Some, if◌then◌else◌, slice_get};
+    ghost use Rattle.std.specs.Prelude.{◌==◌, ◌++◌, ◌∷◌, ◌||◌, Bool, List, [], true, false, Some, if◌then◌else◌, slice_get, slice_index_or};
     ghost use Rattle.std.specs.List.{flat_map};
     ghost use Rattle.vx_flow.specs.declared.graph.Graph.{Graph};
     ghost use Rattle.vx_flow.specs.Effects.{writes};
@@ -99,7 +99,7 @@ impl Loops {
     }
 
     /// The blocks from which edges lead to a block, one for each edge.
-    pub(crate) fn leading_to(&self, block: usize) -> &[BlockId]
+    pub fn leading_to(&self, block: usize) -> &[BlockId]
         ensures { result.now ≡ row_at self.now.sources.items block }
     {
         match self.sources.get(block) {
@@ -109,7 +109,7 @@ impl Loops {
     }
 
     /// Whether a block belongs to the loop that is looked at.
-    pub(crate) fn is_inside(&self, block: usize) -> bool
+    pub fn is_inside(&self, block: usize) -> bool
         ensures { result ≡ is_inside self.now block }
     {
         match self.members.get(block) {
@@ -118,7 +118,9 @@ impl Loops {
         }
     }
 
-    pub(crate) fn rank(&self, block: usize) -> usize {
+    pub fn rank(&self, block: usize) -> usize
+        ensures { result ≡ slice_index_or self.now.ranks.items block (2 ^ 64 - 1) }
+    {
         match self.ranks.get(block) {
             Some(rank) => *rank,
             None => usize::MAX,
