@@ -33,6 +33,18 @@ held_as_sum (Congruent u c ∷ fs) v = held_as_sum fs v
 held_as_sum (Never ∷ fs) v = held_as_sum fs v
 held_as_sum (Equals u code a b ∷ fs) v = first_sum (sum_at v u code a b) (held_as_sum fs v)
 
+abbrev pub behind_if : Option Sum → (here further : List Fact) → List Fact
+behind_if (Some s) here further = here
+behind_if None here further = further
+
+-- the facts behind the one by which value v is such a sum: what they say was known before
+abbrev pub behind : List Fact → ℕ → List Fact
+behind [] v = []
+behind (Between u i ∷ fs) v = behind fs v
+behind (Congruent u c ∷ fs) v = behind fs v
+behind (Never ∷ fs) v = behind fs v
+behind (Equals u code a b ∷ fs) v = behind_if (sum_at v u code a b) fs (behind fs v)
+
 -- with the number the other way
 abbrev pub below : Option Sum → Option Sum
 below (Some s) = Some (record { base = s.base; by = difference_of (pos 0) s.by })
@@ -65,10 +77,10 @@ right_sum fs code a (Some s) otherwise = plus_or (found fs code a (Held s.base))
 right_sum fs code a None otherwise = otherwise
 
 abbrev pub held_sum : List Fact → ℕ → ℕ → Computation
-held_sum fs u v = left_sum fs Add (held_as_sum fs u) (Held v) (right_sum fs Add (Held u) (held_as_sum fs v) (as_is Add (Held u) (Held v)))
+held_sum fs u v = left_sum (behind fs u) Add (held_as_sum fs u) (Held v) (right_sum (behind fs v) Add (Held u) (held_as_sum fs v) (as_is Add (Held u) (Held v)))
 
 abbrev pub held_difference : List Fact → ℕ → ℕ → Computation
-held_difference fs u v = left_sum fs Sub (held_as_sum fs u) (Held v) (right_sum fs Sub (Held u) (below (held_as_sum fs v)) (as_is Sub (Held u) (Held v)))
+held_difference fs u v = left_sum (behind fs u) Sub (held_as_sum fs u) (Held v) (right_sum (behind fs v) Sub (Held u) (below (held_as_sum fs v)) (as_is Sub (Held u) (Held v)))
 
 -- such a sum shifted by a number of places
 abbrev pub shifted : List Fact → Option Sum → ℤ → Computation → Computation
@@ -86,10 +98,10 @@ based_difference fs (Held u) (Held v) = held_difference fs u v
 based_difference fs a b = as_is Sub a b
 
 abbrev pub based_shift : List Fact → Operand → Operand → Computation
-based_shift fs (Held v) (Number n) = shifted fs (held_as_sum fs v) n (as_is Shl (Held v) (Number n))
+based_shift fs (Held v) (Number n) = shifted (behind fs v) (held_as_sum fs v) n (as_is Shl (Held v) (Number n))
 based_shift fs a b = as_is Shl a b
 
--- a computation with the same result: a sum of what is at hand, where its operands are such sums
+-- a computation with the same result: a sum of what is at hand, where its operands are such sums that were made later
 abbrev pub based : List Fact → Code → Operand → Operand → Computation
 based fs Add a b = based_sum fs a b
 based fs Sub a b = based_difference fs a b

@@ -3,7 +3,7 @@
 // not wait for the counter, and most of the way there is not needed any more.
 
 ghost use Rattle.std.specs.Prelude.{◌≡◌};
-ghost use Rattle.vx_claims.specs.Sums.{as_is, based, based_difference, based_shift, based_sum, below, held_as_sum, held_difference, held_sum, left_sum, number_added, plus, plus_or, right_sum, shifted, sum_at, sum_if};
+ghost use Rattle.vx_claims.specs.Sums.{as_is, based, based_difference, based_shift, based_sum, behind, below, held_as_sum, held_difference, held_sum, left_sum, number_added, plus, plus_or, right_sum, shifted, sum_at, sum_if};
 
 use crate::fact::Fact;
 use crate::known::found;
@@ -65,6 +65,33 @@ pub fn held_as_sum(facts: &[Fact], value: Value) -> Option<Sum>
         }
     }
     None
+}
+
+/// The facts behind the one by which a value is such a sum. What they say was known before the sum was made.
+fn behind(facts: &[Fact], value: Value) -> &[Fact]
+    ensures { result.now ≡ behind facts.now value }
+{
+    let mut rest = facts;
+    'next: loop {
+        match rest {
+            [] => return rest,
+            [first, others @ ..] => {
+                match *first {
+                    Fact::Between { .. } | Fact::Congruent { .. } | Fact::Never => {}
+                    Fact::Equals {
+                        value: named,
+                        code,
+                        left,
+                        right,
+                    } => match sum_at(value, named, code, left, right) {
+                        Some(_) => return others,
+                        None => {}
+                    },
+                }
+                rest = others;
+            }
+        }
+    }
 }
 
 /// With the number the other way.
@@ -163,8 +190,20 @@ fn held_sum(facts: &[Fact], left: Value, right: Value) -> Computation
     let first = Operand::Held(left);
     let second = Operand::Held(right);
     let plain = as_is(Code::Add, first, second);
-    let by_right = right_sum(facts, Code::Add, first, held_as_sum(facts, right), plain);
-    left_sum(facts, Code::Add, held_as_sum(facts, left), second, by_right)
+    let by_right = right_sum(
+        behind(facts, right),
+        Code::Add,
+        first,
+        held_as_sum(facts, right),
+        plain,
+    );
+    left_sum(
+        behind(facts, left),
+        Code::Add,
+        held_as_sum(facts, left),
+        second,
+        by_right,
+    )
 }
 
 /// The difference of two values.
@@ -175,8 +214,14 @@ fn held_difference(facts: &[Fact], left: Value, right: Value) -> Computation
     let second = Operand::Held(right);
     let plain = as_is(Code::Sub, first, second);
     let sum = below(held_as_sum(facts, right));
-    let by_right = right_sum(facts, Code::Sub, first, sum, plain);
-    left_sum(facts, Code::Sub, held_as_sum(facts, left), second, by_right)
+    let by_right = right_sum(behind(facts, right), Code::Sub, first, sum, plain);
+    left_sum(
+        behind(facts, left),
+        Code::Sub,
+        held_as_sum(facts, left),
+        second,
+        by_right,
+    )
 }
 
 /// Such a sum shifted by a number of places.
@@ -230,13 +275,19 @@ fn based_shift(facts: &[Fact], left: Operand, right: Operand) -> Computation
     let plain = as_is(Code::Shl, left, right);
     match (left, right) {
         (Operand::Held(value), Operand::Number(places)) => {
-            shifted(facts, held_as_sum(facts, value), places, plain)
+            shifted(
+                behind(facts, value),
+                held_as_sum(facts, value),
+                places,
+                plain,
+            )
         }
         _ => plain,
     }
 }
 
-/// A computation with the same result: a sum of what is at hand, where its operands are such sums.
+/// A computation with the same result: a sum of what is at hand, where its operands are such sums that were made later than that. So
+/// the result is not waited for longer than they are.
 pub fn based(facts: &[Fact], code: Code, left: Operand, right: Operand) -> Computation
     ensures { result ≡ based facts.now code left right }
 {
