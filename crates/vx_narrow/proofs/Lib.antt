@@ -1,4 +1,5 @@
 mod Products
+mod NearPlaces
 pub mod Congruences
 pub mod Residues
 mod Narrows
@@ -12,6 +13,7 @@ pub mod Tests
 pub mod Operations
 pub mod Cells
 pub mod Accesses
+pub mod SumForms
 pub mod Forms
 pub mod Behind
 pub mod Sizes

@@ -1,3 +1,4 @@
+pub mod Placing
 pub mod Shortening
 pub mod Rewriting
 pub mod Staying
