@@ -37,33 +37,29 @@ held_sum fs (Held v) = held_as_sum fs v
 held_sum fs (Number n) = None
 held_sum fs Stack = None
 
--- the array is a global, and this index of it value u
-abbrev pub is_at : List Array → ℕ → Operand → ℕ → Bool
-is_at arrays b i u = (array_in arrays b).global && is_value u i
-
 abbrev pub near_if : Bool → ℕ → Option ℕ → Option ℕ
 near_if true p o = Some p
 near_if false p o = o
 
--- a place at hand of a global's element whose index is value u
-abbrev pub near : List Array → List Access → ℕ → Option ℕ
-near arrays [] u = None
-near arrays (Placed p b i ∷ xs) u = near_if (is_at arrays b i u) p (near arrays xs u)
-near arrays (Stored b p x ∷ xs) u = near arrays xs u
+-- a place at hand of the element of array a whose index is value u
+abbrev pub near : List Access → ℕ → ℕ → Option ℕ
+near [] a u = None
+near (Placed p b i ∷ xs) a u = near_if ((b == a) && is_value u i) p (near xs a u)
+near (Stored b p x ∷ xs) a u = near xs a u
 
 abbrev pub placed_at : Option ℕ → ℕ → ℤ → Op → Op
 placed_at (Some p) v n otherwise = Compute Add v (Held p) (Number (product_of (pos 4) n))
 placed_at None v n otherwise = otherwise
 
-abbrev pub placed_by : List Array → List Access → Option Sum → ℕ → Op → Op
-placed_by arrays xs (Some s) v otherwise = placed_at (near arrays xs s.base) v s.by otherwise
-placed_by arrays xs None v otherwise = otherwise
+abbrev pub placed_by : List Access → ℕ → Option Sum → ℕ → Op → Op
+placed_by xs a (Some s) v otherwise = placed_at (near xs a s.base) v s.by otherwise
+placed_by xs a None v otherwise = otherwise
 
-abbrev pub placed_if : Bool → List Array → List Access → Option Sum → ℕ → Op → Op
-placed_if true arrays xs o v otherwise = placed_by arrays xs o v otherwise
-placed_if false arrays xs o v otherwise = otherwise
+abbrev pub placed_if : Bool → List Access → ℕ → Option Sum → ℕ → Op → Op
+placed_if true xs a o v otherwise = placed_by xs a o v otherwise
+placed_if false xs a o v otherwise = otherwise
 
 -- the operation, or a sum where it is a place near one that is at hand
 abbrev pub placed : List Array → List Op → List Fact → List Access → Op → Op
-placed arrays ops fs xs (Place v a i) = placed_if (is_open arrays ops a) arrays xs (held_sum fs i) v (Place v a i)
+placed arrays ops fs xs (Place v a i) = placed_if (is_open arrays ops a) xs a (held_sum fs i) v (Place v a i)
 placed arrays ops fs xs op = op

@@ -3,7 +3,7 @@
 // another one cannot be seen in such a sum, so that a load would wait for each store to its array.
 
 ghost use Rattle.std.specs.Prelude.{◌≡◌};
-ghost use Rattle.vx_narrow.specs.Placing.{held_sum, is_at, is_open, is_stored, near, placed, placed_at, placed_by, placed_if, stores_to};
+ghost use Rattle.vx_narrow.specs.Placing.{held_sum, is_open, is_stored, near, placed, placed_at, placed_by, placed_if, stores_to};
 
 use vx_arithmetic::mul32;
 use vx_base::arithmetic::Code;
@@ -52,25 +52,18 @@ fn held_sum(facts: &[Fact], operand: Operand) -> Option<Sum>
     }
 }
 
-/// Whether an array is a global, and this index of it the value.
-fn is_at(arrays: &[Array], array: ArrayId, index: Operand, base: Value) -> bool
-    ensures { result ≡ is_at arrays.now array index base }
-{
-    array_in(arrays, array).global && is_value(base, &index)
-}
-
-/// A place at hand of a global's element whose index is the value.
-fn near(arrays: &[Array], known: &[Access], base: Value) -> Option<Value>
-    ensures { result ≡ near arrays.now known.now base }
+/// A place at hand of the element of an array whose index is the value.
+fn near(known: &[Access], array: ArrayId, base: Value) -> Option<Value>
+    ensures { result ≡ near known.now array base }
 {
     for access in known {
         match *access {
             Access::Placed {
                 value,
-                array,
+                array: other,
                 index,
             } => {
-                if is_at(arrays, array, index, base) {
+                if other == array && is_value(base, &index) {
                     return Some(value);
                 }
             }
@@ -94,27 +87,27 @@ fn placed_at(place: Option<Value>, to: Value, by: i32, otherwise: Op) -> Op
     }
 }
 
-fn placed_by(arrays: &[Array], known: &[Access], sum: Option<Sum>, to: Value, otherwise: Op) -> Op
-    ensures { result ≡ placed_by arrays.now known.now sum to otherwise }
+fn placed_by(known: &[Access], array: ArrayId, sum: Option<Sum>, to: Value, otherwise: Op) -> Op
+    ensures { result ≡ placed_by known.now array sum to otherwise }
 {
     match sum {
-        Some(sum) => placed_at(near(arrays, known, sum.base), to, sum.by, otherwise),
+        Some(sum) => placed_at(near(known, array, sum.base), to, sum.by, otherwise),
         None => otherwise,
     }
 }
 
 fn placed_if(
     test: bool,
-    arrays: &[Array],
     known: &[Access],
+    array: ArrayId,
     sum: Option<Sum>,
     to: Value,
     otherwise: Op,
 ) -> Op
-    ensures { result ≡ placed_if test arrays.now known.now sum to otherwise }
+    ensures { result ≡ placed_if test known.now array sum to otherwise }
 {
     if test {
-        placed_by(arrays, known, sum, to, otherwise)
+        placed_by(known, array, sum, to, otherwise)
     } else {
         otherwise
     }
@@ -127,8 +120,8 @@ pub fn placed(arrays: &[Array], ops: &[Op], facts: &[Fact], known: &[Access], op
     match op {
         Op::Place { to, array, index } => placed_if(
             is_open(arrays, ops, array),
-            arrays,
             known,
+            array,
             held_sum(facts, index),
             to,
             op,
