@@ -15,6 +15,8 @@ use Rattle.vx_claims.specs.declared.fact.Fact.TheVariants.{Between, Congruent, E
 use Rattle.vx_claims.specs.declared.access.Access.{Access}
 use Rattle.vx_claims.specs.declared.claim.Claim.{Claim}
 use Rattle.vx_claims.specs.Facts.{range_of, times_if, computed_within, computed_residue, equals_if, lies_in, stands_in, after, same_code, same_operand, found}
+use Rattle.vx_claims.specs.declared.sums.Computation.{Computation}
+use Rattle.vx_claims.specs.Sums.{based}
 use Rattle.vx_claims.specs.Accesses.{accessed, with_words, place_known}
 
 -- whether the code is a move, into v
@@ -54,8 +56,11 @@ read_if false code v a b o = Compute code v a b
 abbrev pub computed_as : List Fact → Code → ℕ → Operand → Operand → Op
 computed_as fs code v a b = read_if (is_readable code) code v a b (found fs code a b)
 
+abbrev pub computed_by : List Fact → ℕ → Computation → Op
+computed_by fs v c = computed_as fs c.code v c.left c.right
+
 abbrev pub formed : List Fact → Op → Op
-formed fs (Compute code v a b) = computed_as fs code v (read fs a) (read fs b)
+formed fs (Compute code v a b) = computed_by fs v (based fs code (read fs a) (read fs b))
 formed fs op = with_operands (read fs) op
 
 -- the same, and a load of a known word is a move

@@ -7,6 +7,7 @@ ghost use Rattle.vx_claims.specs.Forming.{computed_as, form, formed, is_readable
 use crate::access::{Access, with_words};
 use crate::fact::Fact;
 use crate::known::found;
+use crate::sums::based;
 use vx_base::arithmetic::Code;
 use vx_flow::graph::{Op, Operand, Value};
 use vx_flow::operands::{first_operand, second_operand, with_two};
@@ -117,7 +118,10 @@ fn formed(facts: &[Fact], op: &Op) -> Op
             to,
             left,
             right,
-        } => computed_as(facts, code, to, read(facts, left), read(facts, right)),
+        } => {
+            let based = based(facts, code, read(facts, left), read(facts, right));
+            computed_as(facts, based.code, to, based.left, based.right)
+        }
         _ => with_two(
             op,
             read(facts, first_operand(op)),

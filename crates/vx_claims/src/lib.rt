@@ -11,4 +11,5 @@ pub mod forms;
 pub mod intervals;
 pub mod known;
 pub mod residues;
+pub mod sums;
 pub mod update;

@@ -8,6 +8,7 @@ ghost use Rattle.vx_flow.specs.Sound.{is_sound_flow};
 ghost use Rattle.vx_lower.specs.FlowOf.{FlowOf};
 ghost use Rattle.vx_rewrite.specs.Rewritten.{Rewritten};
 
+use crate::written_again::write_again;
 use std::alloc::Global;
 use vx_ast::typed::Typed;
 use vx_base::outcome::NoMemory;
@@ -38,15 +39,48 @@ pub fn flow_of(alloc: Global, program: &Typed) -> Result<Flow, NoMemory>
     narrowed_again(alloc, hoisted)
 }
 
-/// The graphs narrowed and cleaned again where operations were put before loops.
+/// The graphs narrowed and cleaned again where operations were put before loops, and once more where a block writes one value again and
+/// again.
 fn narrowed_again(alloc: Global, hoisted: Hoisted) -> Result<Flow, NoMemory>
     requires { is_sound_flow hoisted.flow ≡ true }
     ensures { IfOk result (λ flow. (p : Program) → FlowOf p hoisted.flow → FlowOf p flow) }
 {
-    if !hoisted.has_more {
-        return Ok(hoisted.flow);
+    let flow = narrowed_if(alloc, hoisted.flow, hoisted.has_more)?;
+    let again = write_again(alloc, &flow)?;
+    if again {
+        narrowed_apart(alloc, flow)
+    } else {
+        Ok(flow)
     }
-    let narrowed = narrow(alloc, hoisted.flow)?;
+}
+
+/// The graphs narrowed and cleaned where that is wanted.
+fn narrowed_if(alloc: Global, flow: Flow, wanted: bool) -> Result<Flow, NoMemory>
+    requires { is_sound_flow flow ≡ true }
+    ensures sound { IfOk result (λ narrowed. is_sound_flow narrowed ≡ true) }
+    ensures flow { IfOk result (λ narrowed. (p : Program) → FlowOf p flow → FlowOf p narrowed) }
+{
+    if !wanted {
+        return Ok(flow);
+    }
+    let narrowed = narrow(alloc, flow)?;
+    clean(alloc, narrowed)
+}
+
+/// Names enough for every value.
+const ENOUGH_NAMES: Room = Room {
+    general: u32::MAX,
+    branch: u32::MAX,
+};
+
+/// The graphs narrowed and cleaned once what is written again has names of its own: so the turns of an unrolled loop do not lose what is
+/// known of the counter and of what was computed from it.
+fn narrowed_apart(alloc: Global, flow: Flow) -> Result<Flow, NoMemory>
+    requires { is_sound_flow flow ≡ true }
+    ensures { IfOk result (λ narrowed. (p : Program) → FlowOf p flow → FlowOf p narrowed) }
+{
+    let apart = rename(alloc, flow, ENOUGH_NAMES)?;
+    let narrowed = narrow(alloc, apart)?;
     clean(alloc, narrowed)
 }
 

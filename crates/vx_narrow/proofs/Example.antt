@@ -176,6 +176,21 @@ large : improved_all [] nothing (three_by (pos 65537)) ≡ three_by (pos 65537)
 unfolding shift_of shift_below shl_of int_wrap
 large = refl
 
+-- the place of the element behind is 4 bytes behind, unless the array is stored to
+
+abbrev one_global : List Array
+one_global = record { words = 8; global = true; named = 0; base = None } ∷ []
+
+abbrev two_places : Op → List Op
+two_places last = Place 2 0 (Held 0) ∷ Compute Add 1 (Held 0) (Number (pos 1)) ∷ last ∷ []
+
+behind : improved_all one_global nothing (two_places (Place 3 0 (Held 1))) ≡ two_places (Compute Add 3 (Held 2) (Number (pos 4)))
+unfolding product_of int_wrap
+behind = refl
+
+stays : improved_all one_global nothing (Store 0 (Held 4) (Held 5) ∷ two_places (Place 3 0 (Held 1))) ≡ Store 0 (Held 4) (Held 5) ∷ two_places (Place 3 0 (Held 1))
+stays = refl
+
 -- a word that was stored is not loaded, nor is one that was loaded, unless its array was stored to between
 abbrev accesses : List Op
 accesses =

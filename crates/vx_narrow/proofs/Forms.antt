@@ -12,6 +12,9 @@ use Rattle.vx_claims.specs.declared.fact.Fact.{Fact}
 use Rattle.vx_claims.specs.declared.fact.Fact.TheVariants.{Between, Congruent, Equals, Never}
 use Rattle.vx_claims.specs.Facts.{full, Within, content, Holds, AllHold, found}
 use Rattle.vx_claims.specs.Forming.{moves, operand_if, source_of, read, is_readable, read_if, computed_as, formed}
+use Rattle.vx_claims.specs.declared.sums.Computation.{Computation}
+use Rattle.vx_claims.specs.Sums.{based}
+use Rattle.vx_narrow.proofs.SumForms.{BothFit, based_fits, based_gives}
 use Rattle.vx_narrow.proofs.Ranges.{Fit}
 use Rattle.vx_narrow.proofs.Equal.{found_holds}
 use Rattle.vx_narrow.proofs.Operations.{OpFits, number_fits, held_is}
@@ -46,7 +49,10 @@ module _ (values : ℕ → Content) where
   computed_fit false code v a b o fit p q = (p, q)
 
   pub formed_fits : (fs : List Fact) (op : Op) → Fit values → AllHold values fs → OpFits values op → OpFits values (formed fs op)
-  formed_fits fs (Compute code v a b) fit h f = computed_fit (is_readable code) code v (read fs a) (read fs b) (found fs code (read fs a) (read fs b)) fit (read_fits fs a h f.0) (read_fits fs b h f.1)
+  formed_fits fs (Compute code v a b) fit h f =
+      let c : Computation = based fs code (read fs a) (read fs b) in
+      let fits : BothFit values c = based_fits values fit fs code (read fs a) (read fs b) (read_fits fs a h f.0, read_fits fs b h f.1) in
+      computed_fit (is_readable c.code) c.code v c.left c.right (found fs c.code c.left c.right) fit fits.0 fits.1
   formed_fits fs (Select v p a b) fit h f = (read_fits fs a h f.0, read_fits fs b h f.1)
   formed_fits fs (Place v a i) fit h f = tt
   formed_fits fs (Load v a p d) fit h f = tt
@@ -71,10 +77,19 @@ computed_same setting s fs code v a b h =
     let is : computed code (held s a) (held s b) ≡ computed code (content s.values a) (content s.values b) = ap (λ c. computed code c (held s b)) (held_is s a) ∙ ap (λ c. computed code (content s.values a) c) (held_is s b) in
     read_same setting s (is_readable code) code v a b (found fs code a b) (λ w e. found_holds s.values fs code a b w h e ∙ sym is)
 
+both_held : (s : State) (code : Code) (a b : Operand) → computed code (held s a) (held s b) ≡ computed code (content s.values a) (content s.values b)
+both_held s code a b = ap (λ c. computed code c (held s b)) (held_is s a) ∙ ap (λ c. computed code (content s.values a) c) (held_is s b)
+
+based_held : (s : State) (fs : List Fact) (code : Code) (a b : Operand) → AllHold s.values fs → computed (based fs code a b).code (held s (based fs code a b).left) (held s (based fs code a b).right) ≡ computed code (held s a) (held s b)
+based_held s fs code a b h =
+    let c : Computation = based fs code a b in
+    both_held s c.code c.left c.right ∙ based_gives s.values fs h code a b ∙ sym (both_held s code a b)
+
 pub formed_same : (setting : Setting) (s : State) (fs : List Fact) (op : Op) → AllHold s.values fs → effect setting s (formed fs op) s ≡ effect setting s op s
 formed_same setting s fs (Compute code v a b) h =
-    computed_same setting s fs code v (read fs a) (read fs b) h ∙ ap (λ c. Some (with_value s v (computed code c (held s (read fs b))))) (held_read s fs a h)
-    ∙ ap (λ c. Some (with_value s v (computed code (held s a) c))) (held_read s fs b h)
+    let c : Computation = based fs code (read fs a) (read fs b) in
+    computed_same setting s fs c.code v c.left c.right h ∙ ap (λ x. Some (with_value s v x)) (based_held s fs code (read fs a) (read fs b) h) ∙ ap (λ x. Some (with_value s v (computed code x (held s (read fs b))))) (held_read s fs a h)
+    ∙ ap (λ x. Some (with_value s v (computed code (held s a) x))) (held_read s fs b h)
 formed_same setting s fs (Select v p a b) h =
     ap (λ c. Some (with_value s v (chosen (s.values p) c (held s (read fs b))))) (held_read s fs a h) ∙ ap (λ c. Some (with_value s v (chosen (s.values p) (held s a) c))) (held_read s fs b h)
 formed_same setting s fs (Place v a i) h = ap (λ c. Some (with_value s v (place_of c))) (held_read s fs i h)

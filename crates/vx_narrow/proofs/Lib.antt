@@ -1,5 +1,6 @@
 mod Masks
 mod Products
+mod NearPlaces
 pub mod Congruences
 pub mod Residues
 mod Narrows
@@ -13,6 +14,7 @@ pub mod Tests
 pub mod Operations
 pub mod Cells
 pub mod Accesses
+pub mod SumForms
 pub mod Forms
 pub mod Behind
 pub mod Sizes

@@ -140,7 +140,7 @@ difference_holds : (i j : Interval) (x y : ℤ) → Within i (Some x) → Within
 unfolding difference_of
 difference_holds i j x y h k = fitting_holds (i.low -ℤ j.high) (i.high -ℤ j.low) (x -ℤ y) (sub_above _ _ _ _ h.0 k.1) (sub_above _ _ _ _ h.1 k.0)
 
-product_suc : (x : ℤ) (n : ℕ) → x *ℤ pos (suc n) ≡ x *ℤ pos n +ℤ x
+pub product_suc : (x : ℤ) (n : ℕ) → x *ℤ pos (suc n) ≡ x *ℤ pos n +ℤ x
 product_suc x n = *ℤ_comm x (pos (suc n)) ∙ suc_ℤ-*ℤ (pos n) x ∙ ap (λ z. z +ℤ x) (*ℤ_comm (pos n) x)
 
 times_above : (x y : ℤ) (n : ℕ) → x ≤ℤ y → (x *ℤ pos n) ≤ℤ (y *ℤ pos n)

@@ -29,12 +29,12 @@ use Rattle.vx_narrow.specs.Staying.{StaysFlow}
 
 -- ---- lengths
 
-from_length : (arrays : List Array) (fs : List Fact) (xs : List Access) (ops : List Op) → length (improved_from arrays fs xs ops) ≡ length ops
-from_length arrays fs xs [] = refl
-from_length arrays fs xs (op ∷ ops) = ap suc (from_length arrays (after_known fs xs op (form fs xs op)) (accessed arrays xs (form fs xs op)) ops)
+from_length : (arrays : List Array) (block : List Op) (fs : List Fact) (xs : List Access) (ops : List Op) → length (improved_from arrays block fs xs ops) ≡ length ops
+from_length arrays block fs xs [] = refl
+from_length arrays block fs xs (op ∷ ops) = ap suc (from_length arrays block (after_known fs xs op (form fs xs op)) (accessed arrays xs (form fs xs op)) ops)
 
 improved_length : (arrays : List Array) (claim : Claim) (ops : List Op) → length (improved_all arrays claim ops) ≡ length ops
-improved_length arrays claim ops = from_length arrays claim.facts claim.accesses ops
+improved_length arrays claim ops = from_length arrays ops claim.facts claim.accesses ops
 
 blocks_length : (arrays : List Array) (k : ℕ → Claim) (n : ℕ) (bs : List Block) → length (narrowed_from arrays k n bs) ≡ length bs
 blocks_length arrays k n [] = refl

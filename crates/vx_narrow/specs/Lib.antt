@@ -1,4 +1,5 @@
 pub mod Masking
+pub mod Placing
 pub mod Shortening
 pub mod Rewriting
 pub mod Staying

@@ -19,6 +19,7 @@ use Rattle.vx_claims.specs.declared.access.Access.{Access}
 use Rattle.vx_claims.specs.declared.claim.Claim.{Claim}
 use Rattle.vx_claims.specs.Accesses.{accessed}
 use Rattle.vx_narrow.specs.Masking.{far_mask}
+use Rattle.vx_narrow.specs.Placing.{placed}
 
 abbrev pub shift_if : Bool → ℕ → Option ℕ → Option ℕ
 shift_if true k otherwise = Some k
@@ -89,14 +90,14 @@ shortened fs (Compute Add v a b) = short_sum fs v a b
 shortened fs (Compute And v a b) = far_mask fs v a b
 shortened fs op = op
 
--- the operation in its other form, and as a product in one operation where it is the last of three, and with the mask far behind
-abbrev pub improved : List Fact → List Access → Op → Op
-improved fs xs op = shortened fs (form fs xs op)
+-- the operation of this block in its other form, and in one operation where it is the last of three or near a place at hand, and with the mask far behind
+abbrev pub improved : List Array → (block : List Op) → List Fact → List Access → Op → Op
+improved arrays block fs xs op = placed arrays block fs xs (shortened fs (form fs xs op))
 
 -- those of a function with these arrays
-abbrev pub improved_from : List Array → List Fact → List Access → List Op → List Op
-improved_from arrays fs xs [] = []
-improved_from arrays fs xs (op ∷ ops) = improved fs xs op ∷ improved_from arrays (after_known fs xs op (form fs xs op)) (accessed arrays xs (form fs xs op)) ops
+abbrev pub improved_from : List Array → (block : List Op) → List Fact → List Access → List Op → List Op
+improved_from arrays block fs xs [] = []
+improved_from arrays block fs xs (op ∷ ops) = improved arrays block fs xs op ∷ improved_from arrays block (after_known fs xs op (form fs xs op)) (accessed arrays xs (form fs xs op)) ops
 
 abbrev pub improved_all : List Array → Claim → List Op → List Op
-improved_all arrays claim ops = improved_from arrays claim.facts claim.accesses ops
+improved_all arrays claim ops = improved_from arrays ops claim.facts claim.accesses ops

@@ -5,10 +5,12 @@ ghost use Rattle.std.specs.List.{list_all};
 ghost use Rattle.vx_claims.specs.Forming.{accessed_from, after_from};
 ghost use Rattle.vx_claims.specs.Claims.{listed_claims};
 ghost use Rattle.vx_narrow.specs.Checking.{has_numbers, is_block_checked, is_left_checked, listed_given};
-ghost use Rattle.vx_narrow.specs.Shortening.{improved_from};
+ghost use Rattle.vx_narrow.specs.Placing.{placed};
+ghost use Rattle.vx_narrow.specs.Shortening.{improved_from, shortened};
 ghost use Rattle.vx_narrow.specs.Rewriting.{narrowed_block, narrowed_exit};
 
 use crate::checks::is_left_checked;
+use crate::near_place::placed;
 use crate::one_product::shortened;
 use std::alloc::Global;
 use vx_base::listed::Listed;
@@ -41,12 +43,12 @@ pub fn pass_ops(
 ) -> Result<Passed, NoMemory>
     ensures facts { IfOk result (λ passed. passed.facts ≡ after_from arrays.now claims.now accesses.now ops.now) }
     ensures accesses { IfOk result (λ passed. passed.accesses ≡ accessed_from arrays.now claims.now accesses.now ops.now) }
-    ensures ops { IfOk result (λ passed. passed.ops ≡ improved_from arrays.now claims.now accesses.now ops.now) }
+    ensures ops { IfOk result (λ passed. passed.ops ≡ improved_from arrays.now ops.now claims.now accesses.now ops.now) }
 {
     let mut facts = claims.to_vec(alloc)?;
     let mut known = copied_accesses(alloc, accesses)?;
     let mut made = Listed::new(alloc);
-    pass_each(alloc, arrays, &mut facts, &mut known, &mut made, ops)?;
+    pass_each(alloc, arrays, ops, &mut facts, &mut known, &mut made, ops)?;
     Ok(Passed {
         facts: Listed::from_vec(facts)?,
         accesses: known,
@@ -54,10 +56,18 @@ pub fn pass_ops(
     })
 }
 
+/// The form of an operation of a block in one operation where it is the last of three or near a place at hand.
+fn improved(arrays: &[Array], block: &[Op], facts: &[Fact], known: &[Access], form: Op) -> Op
+    ensures { result ≡ placed arrays.now block.now facts.now known.now (shortened facts.now form) }
+{
+    placed(arrays, block, facts, known, shortened(facts, form))
+}
+
 /// Puts what is known behind operations in place of what is known before them, and puts their forms behind what is made.
 fn pass_each(
     alloc: Global,
     arrays: &[Array],
+    all: &[Op],
     facts: &mut Vec<Fact>,
     known: &mut Listed<Access>,
     made: &mut Listed<Op>,
@@ -65,11 +75,11 @@ fn pass_each(
 ) -> Result<(), NoMemory>
     ensures facts { IfOk result (λ _. facts.new.items ≡ after_from arrays.now facts.old.items known.old ops.now) }
     ensures known { IfOk result (λ _. known.new ≡ accessed_from arrays.now facts.old.items known.old ops.now) }
-    ensures made { IfOk result (λ _. made.new ≡ made.old ++ improved_from arrays.now facts.old.items known.old ops.now) }
+    ensures made { IfOk result (λ _. made.new ≡ made.old ++ improved_from arrays.now all.now facts.old.items known.old ops.now) }
 {
     for op in ops {
         let form = form(facts.as_slice(), known.as_slice(), op);
-        made.push(shortened(facts.as_slice(), form))?;
+        made.push(improved(arrays, all, facts.as_slice(), known.as_slice(), form))?;
         learn(alloc, facts, known.as_slice(), op, &form)?;
         *known = accessed(alloc, arrays, known.as_slice(), &form)?;
     }

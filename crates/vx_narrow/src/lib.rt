@@ -9,6 +9,7 @@ pub mod fact_laws;
 pub mod given;
 pub mod laws;
 pub mod narrowed_flow;
+pub mod near_place;
 pub mod one_mask;
 pub mod one_product;
 

@@ -19,9 +19,9 @@ from_claim : {X : Type 0} (F : List Fact → List Access → List Op → X) (cla
 from_claim F claim block fs xs ops f x o = ap (λ (h : List Fact). F h xs ops) f ∙ ap (λ (h : List Access). F claim.facts h ops) x ∙ ap (λ (h : List Op). F claim.facts claim.accesses h) o
 
 block_is : (arrays : List Array) (claims : ℕ → Claim) (place : ℕ) (block : Block) (fs behind : List Fact) (xs : List Access) (ops made : List Op) (exit : Exit) → fs ≡ (claims place).facts → xs ≡ (claims place).accesses → ops ≡ block.ops
-    → made ≡ improved_from arrays fs xs ops → behind ≡ after_from arrays fs xs ops → exit ≡ narrowed_exit behind block.exit → block_of made exit ≡ narrowed_block arrays claims place block
+    → made ≡ improved_from arrays ops fs xs ops → behind ≡ after_from arrays fs xs ops → exit ≡ narrowed_exit behind block.exit → block_of made exit ≡ narrowed_block arrays claims place block
 block_is arrays claims place block fs behind xs ops made exit f x o m b e =
-    let all : made ≡ improved_all arrays (claims place) block.ops = m ∙ from_claim (improved_from arrays) (claims place) block fs xs ops f x o in
+    let all : made ≡ improved_all arrays (claims place) block.ops = m ∙ from_claim (λ (h : List Fact) (x : List Access) (o : List Op). improved_from arrays o h x o) (claims place) block fs xs ops f x o in
     let known : behind ≡ after_all arrays (claims place) block.ops = b ∙ from_claim (after_from arrays) (claims place) block fs xs ops f x o in
     ap (λ (h : List Op). block_of h exit) all
     ∙ ap (λ (h : Exit). block_of (improved_all arrays (claims place) block.ops) h) (e ∙ ap (λ (h : List Fact). narrowed_exit h block.exit) known)

@@ -7,7 +7,8 @@ use Rattle.vx_claims.specs.declared.fact.Fact.{Fact}
 use Rattle.vx_claims.specs.declared.access.Access.{Access}
 use Rattle.vx_claims.specs.Accesses.{accessed}
 use Rattle.vx_claims.specs.Forming.{accessed_from, after_from, after_known, form}
-use Rattle.vx_narrow.specs.Shortening.{improved_from, shortened}
+use Rattle.vx_narrow.specs.Shortening.{improved, improved_from, shortened}
+use Rattle.vx_narrow.specs.Placing.{placed}
 use Rattle.vx_narrow.proofs.block_pass.pass_each.Goals as goal
 
 form_is : (fs gs : List Fact) (xs ys : List Access) (op made : Op) → gs ≡ fs → ys ≡ xs → made ≡ form gs ys op → made ≡ form fs xs op
@@ -21,15 +22,15 @@ step arrays F fs new xs zs us later op made z u k n l =
     ∙ ap (λ (h : List Access). F (after_known fs xs op made) h) (l ∙ ap (λ (h : List Access). accessed arrays h made) u)
     ∙ ap (λ (h : Op). F (after_known fs xs op h) (accessed arrays xs h)) k
 
-made_step : (arrays : List Array) (fs hs new : List Fact) (xs zs us later : List Access) (op made short : Op) (rest done more : List Op) → hs ≡ fs → zs ≡ xs → us ≡ xs → made ≡ form fs xs op → short ≡ shortened hs made → more ≡ done ++ short ∷ []
-    → new ≡ after_known fs zs op made → later ≡ accessed arrays us made → more ++ improved_from arrays new later rest ≡ done ++ improved_from arrays fs xs (op ∷ rest)
-made_step arrays fs hs new xs zs us later op made short rest done more h z u k s d n l =
-    let r = step arrays (λ a b. improved_from arrays a b rest) fs new xs zs us later op made z u k n l in
-    let t : short ≡ shortened fs (form fs xs op) = s ∙ ap (λ (w : List Fact). shortened w made) h ∙ ap (λ (w : Op). shortened fs w) k in
-    ap (λ (w : List Op). w ++ improved_from arrays new later rest) d
-    ∙ append_assoc done (short ∷ []) (improved_from arrays new later rest)
-    ∙ ap (λ (w : Op). done ++ w ∷ improved_from arrays new later rest) t
-    ∙ ap (λ (w : List Op). done ++ shortened fs (form fs xs op) ∷ w) r
+made_step : (arrays : List Array) (all : List Op) (fs hs new : List Fact) (xs ys zs us later : List Access) (op made short : Op) (rest done more : List Op) → hs ≡ fs → ys ≡ xs → zs ≡ xs → us ≡ xs → made ≡ form fs xs op → short ≡ placed arrays all hs ys (shortened hs made)
+    → more ≡ done ++ short ∷ [] → new ≡ after_known fs zs op made → later ≡ accessed arrays us made → more ++ improved_from arrays all new later rest ≡ done ++ improved_from arrays all fs xs (op ∷ rest)
+made_step arrays all fs hs new xs ys zs us later op made short rest done more h y z u k s d n l =
+    let r = step arrays (λ a b. improved_from arrays all a b rest) fs new xs zs us later op made z u k n l in
+    let t : short ≡ improved arrays all fs xs op = s ∙ ap (λ (w : List Fact). placed arrays all w ys (shortened w made)) h ∙ ap (λ (w : List Access). placed arrays all fs w (shortened fs made)) y ∙ ap (λ (w : Op). placed arrays all fs xs (shortened fs w)) k in
+    ap (λ (w : List Op). w ++ improved_from arrays all new later rest) d
+    ∙ append_assoc done (short ∷ []) (improved_from arrays all new later rest)
+    ∙ ap (λ (w : Op). done ++ w ∷ improved_from arrays all new later rest) t
+    ∙ ap (λ (w : List Op). done ++ improved arrays all fs xs op ∷ w) r
 
 pub loop-op-preserved : goal.loop-op-preserved
 loop-op-preserved c =
@@ -37,17 +38,17 @@ loop-op-preserved c =
     let xs = c.loop-op.known in
     let ops = c.args.ops.now in
     let i = c.loop-op.op-index in
-    let z : c.as_slice-in-loop-op-3.result.now ≡ xs = c.as_slice-in-loop-op-3.ensures in
-    let u : c.as_slice-in-loop-op-4.result.now ≡ xs = c.as_slice-in-loop-op-4.ensures in
+    let z : c.as_slice-in-loop-op-4.result.now ≡ xs = c.as_slice-in-loop-op-4.ensures in
+    let u : c.as_slice-in-loop-op-5.result.now ≡ xs = c.as_slice-in-loop-op-5.ensures in
     let k = form_is fs c.as_slice.result.now xs c.as_slice-in-loop-op.result.now _ c.form-form.result c.as_slice.ensures.value c.as_slice-in-loop-op.ensures c.form-form.ensures in
     record {
-      facts = step c.args.arrays.now (λ a b. after_from c.args.arrays.now a b (drop (i + 1) ops)) fs c.learn.new.facts.items xs c.as_slice-in-loop-op-3.result.now c.as_slice-in-loop-op-4.result.now c.in_ok-known.field-0 _ c.form-form.result z u k c.in_ok-learn.ensures c.in_ok-known.ensures
+      facts = step c.args.arrays.now (λ a b. after_from c.args.arrays.now a b (drop (i + 1) ops)) fs c.learn.new.facts.items xs c.as_slice-in-loop-op-4.result.now c.as_slice-in-loop-op-5.result.now c.in_ok-known.field-0 _ c.form-form.result z u k c.in_ok-learn.ensures c.in_ok-known.ensures
           ∙ sym (at_drop_more (λ (l : List Op). after_from c.args.arrays.now fs xs l) ops i _ c.loop-op-test.true) ∙ c.loop-op.invariant.facts;
-      accesses = step c.args.arrays.now (λ a b. accessed_from c.args.arrays.now a b (drop (i + 1) ops)) fs c.learn.new.facts.items xs c.as_slice-in-loop-op-3.result.now c.as_slice-in-loop-op-4.result.now c.in_ok-known.field-0 _ c.form-form.result z u k c.in_ok-learn.ensures c.in_ok-known.ensures
+      accesses = step c.args.arrays.now (λ a b. accessed_from c.args.arrays.now a b (drop (i + 1) ops)) fs c.learn.new.facts.items xs c.as_slice-in-loop-op-4.result.now c.as_slice-in-loop-op-5.result.now c.in_ok-known.field-0 _ c.form-form.result z u k c.in_ok-learn.ensures c.in_ok-known.ensures
           ∙ sym (at_drop_more (λ (l : List Op). accessed_from c.args.arrays.now fs xs l) ops i _ c.loop-op-test.true) ∙ c.loop-op.invariant.accesses;
-      made = made_step c.args.arrays.now fs c.as_slice-in-loop-op-2.result.now c.learn.new.facts.items xs c.as_slice-in-loop-op-3.result.now c.as_slice-in-loop-op-4.result.now c.in_ok-known.field-0 _ c.form-form.result c.shortened.result (drop (i + 1) ops) c.loop-op.made c.push.new.self
-          c.as_slice-in-loop-op-2.ensures.value z u k c.shortened.ensures c.in_ok-push.ensures.ok c.in_ok-learn.ensures c.in_ok-known.ensures
-          ∙ sym (at_drop_more (λ (l : List Op). c.loop-op.made ++ improved_from c.args.arrays.now fs xs l) ops i _ c.loop-op-test.true) ∙ c.loop-op.invariant.made;
+      made = made_step c.args.arrays.now c.args.all.now fs c.as_slice-in-loop-op-2.result.now c.learn.new.facts.items xs c.as_slice-in-loop-op-3.result.now c.as_slice-in-loop-op-4.result.now c.as_slice-in-loop-op-5.result.now c.in_ok-known.field-0 _ c.form-form.result c.improved.result (drop (i + 1) ops) c.loop-op.made c.push.new.self
+          c.as_slice-in-loop-op-2.ensures.value c.as_slice-in-loop-op-3.ensures z u k c.improved.ensures c.in_ok-push.ensures.ok c.in_ok-learn.ensures c.in_ok-known.ensures
+          ∙ sym (at_drop_more (λ (l : List Op). c.loop-op.made ++ improved_from c.args.arrays.now c.args.all.now fs xs l) ops i _ c.loop-op-test.true) ∙ c.loop-op.invariant.made;
     }
 
 pub returns-clause-facts : goal.returns-clause-facts
@@ -59,7 +60,7 @@ returns-clause-known c = sym (at_drop_all (λ (l : List Op). accessed_from c.arg
 pub returns-clause-made : goal.returns-clause-made
 returns-clause-made c =
     sym (append-nil c.loop-op.made)
-    ∙ sym (at_drop_all (λ (l : List Op). c.loop-op.made ++ improved_from c.args.arrays.now c.loop-op.facts.items c.loop-op.known l) c.args.ops.now c.loop-op.op-index c.loop-op-test.false) ∙ c.loop-op.invariant.made
+    ∙ sym (at_drop_all (λ (l : List Op). c.loop-op.made ++ improved_from c.args.arrays.now c.args.all.now c.loop-op.facts.items c.loop-op.known l) c.args.ops.now c.loop-op.op-index c.loop-op-test.false) ∙ c.loop-op.invariant.made
 
 pub returns-in_err-push-clause-facts : goal.returns-in_err-push-clause-facts
 returns-in_err-push-clause-facts c = IfOk-from_err _ _ c.from_residual.ensures.0

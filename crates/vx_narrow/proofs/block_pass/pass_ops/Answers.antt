@@ -22,5 +22,5 @@ returns-clause-accesses c =
 pub returns-clause-ops : goal.returns-clause-ops
 returns-clause-ops c =
     c.in_ok-pass_each.ensures.made
-    ∙ ap (λ (made : List Op). made ++ improved_from c.args.arrays.now c.in_ok-facts.facts.items c.in_ok-known.known c.args.ops.now) c.new-made.ensures
-    ∙ from_claims (λ fs xs. improved_from c.args.arrays.now fs xs c.args.ops.now) c.in_ok-facts.facts.items c.args.claims.now c.in_ok-known.known c.args.accesses.now (c.in_ok-facts.ensures.items_if_clones_equal (λ x y e. e)) c.in_ok-known.ensures
+    ∙ ap (λ (made : List Op). made ++ improved_from c.args.arrays.now c.args.ops.now c.in_ok-facts.facts.items c.in_ok-known.known c.args.ops.now) c.new-made.ensures
+    ∙ from_claims (λ fs xs. improved_from c.args.arrays.now c.args.ops.now fs xs c.args.ops.now) c.in_ok-facts.facts.items c.args.claims.now c.in_ok-known.known c.args.accesses.now (c.in_ok-facts.ensures.items_if_clones_equal (λ x y e. e)) c.in_ok-known.ensures
