@@ -86,12 +86,12 @@ all_tidy t homes i served (op ∷ ops) (k ∷ chosen) (f ∷ fixed) small w o m 
 
 -- joins
 
-record Moved (pieces : List (List Standing)) (js : List Join) (j : Join) : Type 0 where
-  from : Join
-  is_there : IsIn from js
-  is : j ≡ moved_join pieces from
+pub record Moved (pieces : List (List Standing)) (js : List Join) (j : Join) : Type 0 where
+  pub from : Join
+  pub is_there : IsIn from js
+  pub is : j ≡ moved_join pieces from
 
-moved : (pieces : List (List Standing)) (js : List Join) (j : Join) → IsIn j (map (moved_join pieces) js) → Moved pieces js j
+pub moved : (pieces : List (List Standing)) (js : List Join) (j : Join) → IsIn j (map (moved_join pieces) js) → Moved pieces js j
 moved pieces [] j h = absurd h
 moved pieces (x ∷ xs) j h = ⊎_elim (λ q. record { from = x; is_there = inl refl; is = q }) (λ i. let r = moved pieces xs j i in record { from = r.from; is_there = inr r.is_there; is = r.is }) h
 
@@ -103,7 +103,7 @@ same_edges : (pieces : List (List Standing)) (js : List Join) → map (λ (j : J
 same_edges pieces [] = refl
 same_edges pieces (j ∷ js) = ap (λ z. j.edges ∷ z) (same_edges pieces js)
 
-joins_there : (js : List Join) (j : Join) → IsIn j js → list_any (λ (x : Join). nat_eq x.place j.place) js ≡ true
+pub joins_there : (js : List Join) (j : Join) → IsIn j js → list_any (λ (x : Join). nat_eq x.place j.place) js ≡ true
 joins_there [] j h = absurd h
 joins_there (x ∷ xs) j h = ⊎_elim
     (λ q. ap (λ b. b || list_any (λ (z : Join). nat_eq z.place j.place) xs) (eq-eqb x.place j.place (ap (λ (z : Join). z.place) (sym q))))

@@ -61,7 +61,7 @@ calm_is setting s t (Across v u) e = or_so s t (effect setting s (Across v u) s)
 abbrev pub item_at : Standing → Item
 item_at s = item_of s.op s.cluster
 
-items_are : (xs : List Standing) → items_of (map op_of xs) (map (λ (s : Standing). s.cluster) xs) ≡ map item_at xs
+pub items_are : (xs : List Standing) → items_of (map op_of xs) (map (λ (s : Standing). s.cluster) xs) ≡ map item_at xs
 items_are [] = refl
 items_are (x ∷ xs) = ap (λ is. item_at x ∷ is) (items_are xs)
 
@@ -77,7 +77,7 @@ drop_items : (piece js rs : List Standing) → drop (length (piece ++ js)) (map 
 drop_items [] js rs = refl
 drop_items (x ∷ xs) js rs = drop_items xs js rs
 
-items_from : (q : ℕ) (pieces : List (List Standing)) → drop (length (joined (take q pieces))) (map item_at (joined pieces)) ≡ map item_at (joined (drop q pieces))
+pub items_from : (q : ℕ) (pieces : List (List Standing)) → drop (length (joined (take q pieces))) (map item_at (joined pieces)) ≡ map item_at (joined (drop q pieces))
 items_from zero pieces = refl
 items_from (suc q) [] = refl
 items_from (suc q) (piece ∷ pieces) = drop_items piece (joined (take q pieces)) (joined pieces) ∙ items_from q pieces

@@ -56,3 +56,8 @@ pub mod Renamed
 pub mod Turns
 pub mod CopiesMade
 pub mod Standing
+pub mod LiveForth
+pub mod LiveEntries
+pub mod LiveEnds
+pub mod NothingLost
+pub mod LiveSteps

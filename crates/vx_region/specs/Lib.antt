@@ -13,3 +13,4 @@ pub mod TwoBlocks
 pub mod AtHome
 pub mod Beside
 pub mod Ways
+pub mod LiveEnds

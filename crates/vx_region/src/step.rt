@@ -4,10 +4,12 @@
 ghost use Rattle.std.specs.Prelude.{◌≡◌, ◌<◌, IfOk, OnErr, length};
 ghost use Rattle.vx_flow.specs.declared.graph.Graph.{Graph};
 ghost use Rattle.vx_mixed.specs.Layout.{IsDone};
+ghost use Rattle.vx_mixed.specs.Routes.{live_values};
 ghost use Rattle.vx_mixed.specs.TraceOf.{CanTrace};
 ghost use Rattle.vx_mixed.specs.Valid.{Valid};
 ghost use Rattle.vx_trace.specs.Picked.{Picked};
 ghost use Rattle.vx_sched.specs.Placement.{HaveRoomAlone};
+ghost use Rattle.vx_region.specs.LiveEnds.{TellsLive};
 ghost use Rattle.vx_region.specs.Owed.{IsPlacedWithin};
 ghost use Rattle.vx_region.specs.Regions.{IsGraphOf, ReplacesAll, ReplacesOne};
 ghost use Rattle.vx_region.specs.Stepping.{IsNext, IsNextBy, IsOnClusters, OnFinished, OnReplaced};
@@ -24,9 +26,11 @@ use vx_bug::assign;
 use vx_bug::clusters::Clusters;
 use vx_flow::copies::copied_clustered;
 use vx_flow::graph::BlockId;
+use vx_flow::live_rows::Live;
 use vx_flow::trace::{Clustered, Homes, Placed};
 use vx_machine::Machine;
 use vx_mixed::replacement::Replacement;
+use vx_mixed::routes::live_at_blocks;
 use vx_profile::counts::Counts;
 use vx_replace::Mixed;
 use vx_trace::{count_of_trace, pick};
@@ -68,10 +72,31 @@ pub fn replace_one(
     ensures unchanged { OnErr result ((mixed.new ≡ mixed.old) × (budget.new ≡ budget.old)) }
 {
     mixed.keeps_valid();
+    let live = live_at_blocks(alloc, mixed.graph())?;
+    replace_next(alloc, mixed, &live, counts, machine, budget)
+}
+
+/// The same, where these values are live where splits may leave.
+fn replace_next(
+    alloc: Global,
+    mixed: &mut Mixed,
+    live: &Live,
+    counts: &Counts,
+    machine: &Machine,
+    budget: &mut Budget,
+) -> Result<Step, NoMemory>
+    requires graph { (graph : Graph) × IsGraphOf machine.now graph mixed.old }
+    requires live { TellsLive mixed.old (live_values live.now) }
+    ensures finished { IfOk result (λ step. OnFinished step (IsDone mixed.new × (mixed.new ≡ mixed.old) × (budget.new ≡ budget.old))) }
+    ensures replaced { IfOk result (λ step. OnReplaced step (λ plan. ReplacesOne machine.now counts.now budget.old.cap mixed.old budget.old.used plan mixed.new budget.new.used)) }
+    ensures same_cap { budget.new.cap ≡ budget.old.cap }
+    ensures unchanged { OnErr result ((mixed.new ≡ mixed.old) × (budget.new ≡ budget.old)) }
+{
+    mixed.keeps_valid();
     match pick(alloc, mixed, counts)? {
         None => Ok(Step::Finished),
         Some(blocks) => {
-            let plan = replace_picked(alloc, mixed, counts, blocks, machine, budget)?;
+            let plan = replace_picked(alloc, mixed, live, counts, blocks, machine, budget)?;
             Ok(Step::Replaced(plan))
         }
     }
@@ -108,7 +133,8 @@ pub fn all_regions(
     }
 }
 
-/// All blocks become regions, one picked trace after the other. The plans of the regions come in that order.
+/// All blocks become regions, one picked trace after the other. The plans of the regions come in that order. What is live where
+/// splits may leave is found once, since no step changes it.
 fn replace_all(
     alloc: Global,
     mixed: &mut Mixed,
@@ -121,10 +147,29 @@ fn replace_all(
     ensures same_cap { budget.new.cap ≡ budget.old.cap }
 {
     mixed.keeps_valid();
+    let live = live_at_blocks(alloc, mixed.graph())?;
+    replace_each(alloc, mixed, &live, counts, machine, budget)
+}
+
+/// The same, where these values are live where splits may leave.
+fn replace_each(
+    alloc: Global,
+    mixed: &mut Mixed,
+    live: &Live,
+    counts: &Counts,
+    machine: &Machine,
+    budget: &mut Budget,
+) -> Result<Listed<TracePlan>, NoMemory>
+    requires graph { (graph : Graph) × IsGraphOf machine.now graph mixed.old }
+    requires live { TellsLive mixed.old (live_values live.now) }
+    ensures regions { IfOk result (λ plans. ReplacesAll machine.now counts.now budget.old.cap mixed.old budget.old.used plans mixed.new budget.new.used) }
+    ensures same_cap { budget.new.cap ≡ budget.old.cap }
+{
+    mixed.keeps_valid();
     assigned_operations_stand();
     let mut plans = Listed::new(alloc);
     'step: loop {
-        match replace_one(alloc, mixed, counts, machine, budget)? {
+        match replace_next(alloc, mixed, live, counts, machine, budget)? {
             Step::Finished => return Ok(plans),
             Step::Replaced(plan) => plans.push(plan)?,
         }
@@ -143,6 +188,7 @@ pub struct Next {
 fn replace_picked(
     alloc: Global,
     mixed: &mut Mixed,
+    live: &Live,
     counts: &Counts,
     blocks: Listed<BlockId>,
     machine: &Machine,
@@ -151,6 +197,7 @@ fn replace_picked(
     requires valid { Valid mixed.old }
     requires graph { (graph : Graph) × IsGraphOf machine.now graph mixed.old }
     requires picked { Picked mixed.old counts.now blocks }
+    requires live { TellsLive mixed.old (live_values live.now) }
     ensures replaced { IfOk result (λ plan. ReplacesOne machine.now counts.now budget.old.cap mixed.old budget.old.used plan mixed.new budget.new.used) }
     ensures same_cap { budget.new.cap ≡ budget.old.cap }
     ensures unchanged { OnErr result ((mixed.new ≡ mixed.old) × (budget.new ≡ budget.old)) }
@@ -159,7 +206,7 @@ fn replace_picked(
         plan,
         replacement,
         used,
-    } = next_of(alloc, mixed, counts, blocks, machine, *budget)?;
+    } = next_of(alloc, mixed, live, counts, blocks, machine, *budget)?;
     match mixed.replace(alloc, replacement) {
         Ok(()) => {
             budget.used = used;
@@ -176,6 +223,7 @@ fn replace_picked(
 fn next_of(
     alloc: Global,
     mixed: &Mixed,
+    live: &Live,
     counts: &Counts,
     blocks: Listed<BlockId>,
     machine: &Machine,
@@ -184,11 +232,12 @@ fn next_of(
     requires valid { Valid mixed.now }
     requires graph { (graph : Graph) × IsGraphOf machine.now graph mixed.now }
     requires picked { Picked mixed.now counts.now blocks }
+    requires live { TellsLive mixed.now (live_values live.now) }
     ensures { IfOk result (λ next. IsNext machine.now counts.now budget.cap mixed.now budget.used next) }
 {
     machine.keeps_ranges();
     assigned_operations_stand();
-    let on = on_clusters(alloc, mixed, blocks.as_slice(), machine)?;
+    let on = on_clusters(alloc, mixed, live, blocks.as_slice(), machine)?;
     match placed_twice(alloc, &on, machine, budget) {
         Ok(twice) => {
             let count = count_of_trace(mixed, counts, blocks.as_slice());
@@ -214,15 +263,17 @@ pub struct OnClusters {
 fn on_clusters(
     alloc: Global,
     mixed: &Mixed,
+    live: &Live,
     blocks: &[BlockId],
     machine: &Machine,
 ) -> Result<OnClusters, NoMemory>
     requires valid { Valid mixed.now }
     requires graph { (graph : Graph) × IsGraphOf machine.now graph mixed.now }
     requires can { CanTrace mixed.now blocks.now }
+    requires live { TellsLive mixed.now (live_values live.now) }
     ensures { IfOk result (λ x. IsOnClusters machine.now mixed.now blocks.now x) }
 {
-    let trace = mixed.trace(alloc, blocks)?;
+    let trace = mixed.trace_with(alloc, live, blocks)?;
     let clusters = assign(alloc, &trace, machine, mixed.homes());
     drop(trace);
     let Clusters {

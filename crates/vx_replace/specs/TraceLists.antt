@@ -2,7 +2,6 @@
 use Rattle.std.specs.Prelude.{◌≡◌, ◌↔◌, ◌==◌, ℕ, Bool, true, false, if◌then◌else◌, Option, None, List, [], ◌∷◌, ◌++◌, length, replicate, slice_get}
 use Rattle.std.specs.List.{filter}
 use Rattle.vx_flow.specs.declared.graph.Edge.{Edge}
-use Rattle.vx_flow.specs.declared.trace.TraceOp.{TraceOp}
 use Rattle.vx_flow.specs.declared.trace.TraceOp.TheVariants.{Split}
 use Rattle.vx_flow.specs.Effects.{IsIn}
 use Rattle.vx_flow.specs.Rows.{row_at}
@@ -26,9 +25,3 @@ has_split m (b ∷ blocks) = if length (split_behind (λ c. []) b (block_at m b)
 -- `live` tells what is live where the splits of the trace leave
 abbrev pub LiveAtSplits : MixedGraph → List ℕ → (ℕ → List ℕ) → Type 0
 LiveAtSplits m blocks live = (p v : ℕ) (y : Bool) (e : Edge) (vs : List ℕ) → IsIn (Split p y e vs) (trace_ops m live blocks) → (IsIn v vs ↔ Live m e.to v)
-
--- the operations of these blocks, where each split has the values that are live where it leaves
-pub record IsOpsOf (m : MixedGraph) (blocks : List ℕ) (ops : List TraceOp) : Type 0 where
-  pub live : ℕ → List ℕ
-  pub ops_are : ops ≡ trace_ops m live blocks
-  pub lives : LiveAtSplits m blocks live

@@ -10,19 +10,22 @@ ghost use Rattle.vx_mixed.specs.Edges.{EdgesOf};
 ghost use Rattle.vx_mixed.specs.FromGraph.{FromGraph, origin_edge, same_edge, unused_in};
 ghost use Rattle.vx_mixed.specs.TraceOf.{CanTrace, IsTraceOf};
 ghost use Rattle.vx_mixed.specs.Next.{next_mixed};
+ghost use Rattle.vx_mixed.specs.Routes.{live_values};
 ghost use Rattle.vx_mixed.specs.Valid.{CanBegin, Valid};
+ghost use Rattle.vx_replace.specs.TraceLists.{LiveAtSplits};
 
 use crate::begun_lists::{begun_blocks, told_values};
 use crate::edges::is_edge_among;
 use crate::nodes::is_among;
 use crate::replacement::replace_trace;
-use crate::trace::{trace_of, unused_at};
+use crate::trace::{trace_of, trace_with, unused_at};
 use std::alloc::Global;
 use std::marker::Model;
 use vx_base::listed::Listed;
 use vx_base::outcome::NoMemory;
 use vx_flow::graph::{Block, BlockId, Edge, Graph};
 use vx_flow::laws::sound_graph_leads_within;
+use vx_flow::live_rows::Live;
 use vx_flow::trace::{Homes, Trace};
 use vx_flow::{back_edges, headers};
 use vx_mixed::mixed::MixedGraph;
@@ -167,6 +170,19 @@ impl Mixed {
         ensures { IfOk result (λ trace. IsTraceOf self.now blocks.now trace) }
     {
         trace_of(alloc, &self.graph, self.edges.as_slice(), blocks)
+    }
+
+    /// The same, where these values are live at the ends of the edges by which its splits leave.
+    pub fn trace_with(
+        &self,
+        alloc: Global,
+        live: &Live,
+        blocks: &[BlockId],
+    ) -> Result<Trace, NoMemory>
+        requires { LiveAtSplits self.now blocks.now (live_values live.now) }
+        ensures { IfOk result (λ trace. IsTraceOf self.now blocks.now trace) }
+    {
+        trace_with(alloc, &self.graph, self.edges.as_slice(), live, blocks)
     }
 
     /// A trace becomes a region, and blocks are made of the copies on its edges. The trace must be that of its blocks, but for

@@ -7,7 +7,7 @@ ghost use Rattle.vx_flow.specs.declared.trace.TraceOp.TheVariants.{Plain};
 ghost use Rattle.vx_mixed.specs.Edges.{EdgesOf};
 ghost use Rattle.vx_mixed.specs.FromGraph.{unused_in};
 ghost use Rattle.vx_mixed.specs.Routes.{live_values};
-ghost use Rattle.vx_replace.specs.TraceLists.{IsOpsOf, LiveAtSplits, block_fixed, has_split};
+ghost use Rattle.vx_replace.specs.TraceLists.{LiveAtSplits, block_fixed, has_split};
 ghost use Rattle.vx_mixed.specs.TraceOf.{CanTrace, IsTraceOf, block_at, block_ops, clusters_of, split_behind, trace_fixed, trace_ops};
 ghost use Rattle.vx_mixed.specs.Valid.{Valid};
 
@@ -34,7 +34,23 @@ pub(crate) fn trace_of(
     requires can { CanTrace graph.now blocks.now }
     ensures { IfOk result (λ trace. IsTraceOf graph.now blocks.now trace) }
 {
-    let ops = ops_of(alloc, graph, blocks)?;
+    let live = live_at_splits(alloc, graph, blocks)?;
+    trace_with(alloc, graph, edges, &live, blocks)
+}
+
+/// The same, where these values are live at the ends of its splits' edges.
+pub(crate) fn trace_with(
+    alloc: Global,
+    graph: &MixedGraph,
+    edges: &[Edge],
+    live: &Live,
+    blocks: &[BlockId],
+) -> Result<Trace, NoMemory>
+    requires edges { EdgesOf graph.now edges.now }
+    requires live { LiveAtSplits graph.now blocks.now (live_values live.now) }
+    ensures { IfOk result (λ trace. IsTraceOf graph.now blocks.now trace) }
+{
+    let ops = ops_with(alloc, graph, live, blocks)?;
     let fixed = fixed_of(alloc, graph, blocks)?;
     let joins = joins_of(alloc, graph, edges, blocks)?;
     let arrays = copied(alloc, graph.arrays.as_slice())?;
@@ -94,20 +110,6 @@ pub(crate) fn rest_of(blocks: &[BlockId], place: usize) -> &[BlockId]
 }
 
 /// The operations of the blocks, with the splits between them and the values that are live where these leave.
-fn ops_of(
-    alloc: Global,
-    graph: &MixedGraph,
-    blocks: &[BlockId],
-) -> Result<Listed<TraceOp>, NoMemory>
-    requires valid { Valid graph.now }
-    requires can { CanTrace graph.now blocks.now }
-    ensures { IfOk result (λ ops. IsOpsOf graph.now blocks.now ops) }
-{
-    let live = live_at_splits(alloc, graph, blocks)?;
-    ops_with(alloc, graph, &live, blocks)
-}
-
-/// The same, where these values are live.
 fn ops_with(
     alloc: Global,
     graph: &MixedGraph,

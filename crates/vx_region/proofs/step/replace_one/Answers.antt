@@ -1,8 +1,6 @@
-use Rattle.std.proofs.Common.{refl, subst}
-use Rattle.vx_trace.specs.Picked.{Picks}
+use Rattle.vx_mixed.specs.Routes.{live_values}
+use Rattle.vx_region.proofs.LiveEnds.{tells_of}
 use Rattle.vx_region.proofs.step.replace_one.Goals as goal
 
-pub returns-in-None-clause-finished : goal.returns-in-None-clause-finished
-returns-in-None-clause-finished c =
-    let none = subst (Picks c.args.mixed.now c.args.counts.now) c.in-None.is c.in_ok-pick.ensures in
-    (λ b block e. none b (block, e), refl, refl)
+pub replace_next-requires-clause-live : goal.replace_next-requires-clause-live
+replace_next-requires-clause-live c = tells_of c.args.mixed.now c.graph.result.now c.graph.ensures c.keeps_valid.ensures (live_values c.in_ok-live.live) c.in_ok-live.ensures
