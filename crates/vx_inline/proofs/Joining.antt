@@ -233,7 +233,7 @@ module _ (flow : Flow) (site : Site) (c : CallAt flow site) (free : Bank → Lis
   copied_here ops (Return v) x h = record { more = moves_out c.parts.result (with_value_in to v); is = refl; copies = (refl, refl) }
   copied_here ops (Ends k) x h = record { more = []; is = sym (append-nil ops); copies = (refl, refl) }
 
-  stands : (b : ℕ) (block : Block) → slice_get B b ≡ Some block → Stands F copy to c.parts.result (at c.parts.next) block (copy b)
+  pub stands : (b : ℕ) (block : Block) → slice_get B b ≡ Some block → Stands F copy to c.parts.result (at c.parts.next) block (copy b)
   stands b block e = by (is_plain block) refl
     where
       by : (t : Bool) → is_plain block ≡ t → Stands F copy to c.parts.result (at c.parts.next) block (copy b)
