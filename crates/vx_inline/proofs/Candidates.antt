@@ -1,8 +1,7 @@
 -- Which sites are permitted, and which are candidates, by what is found and tested.
-use Rattle.std.proofs.Common.{◌≡◌, ◌↔◌, ℕ, ◌+◌, Bool, true, false, ◌<◌, ◌≤◌, nat_lt, ltb-true, ltb-false, List, length, slice_get, Option, Some, None, refl, sym, ap, ◌∙◌, subst, arith, IsTrue}
+use Rattle.std.proofs.Common.{◌≡◌, ◌↔◌, ℕ, ◌+◌, Bool, true, false, ◌<◌, ◌≤◌, nat_lt, ltb-true, ltb-false, List, length, Option, Some, None, refl, sym, ap, ◌∙◌, subst, arith, IsTrue}
 use Rattle.std.proofs.lemmas.Bool.{false≢true}
 use Rattle.std.proofs.lemmas.Option.{slice_get_within}
-use Rattle.vx_flow.specs.declared.graph.Graph.{Graph}
 use Rattle.vx_flow.specs.declared.graph.Flow.{Flow}
 use Rattle.vx_flow.specs.Live.{IsLive}
 use Rattle.vx_flow.specs.Rows.{is_marked, lives, row_at}

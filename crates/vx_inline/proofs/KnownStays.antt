@@ -1,5 +1,5 @@
 -- What is known of a flow is known of it still with a call inlined.
-use Rattle.std.proofs.Common.{◌≡◌, ◌⊎◌, ◌↔◌, inl, inr, ℕ, zero, suc, ◌+◌, ◌<◌, ◌≤◌, Bool, true, false, cond, ◌==◌, List, [], ◌∷◌, ◌++◌, length, map, slice_get, slice_set, get_or, not, drop, Option, Some, None, refl, sym, ap, ◌∙◌, subst, eq-eqb, eqb-true, lt-ltb, ltb-true, arith, IsTrue}
+use Rattle.std.proofs.Common.{◌≡◌, ◌⊎◌, ◌↔◌, inl, inr, ℕ, zero, suc, ◌+◌, ◌<◌, ◌≤◌, Bool, true, false, cond, ◌==◌, List, [], ◌∷◌, ◌++◌, length, slice_get, slice_set, get_or, not, drop, Option, Some, refl, sym, ap, ◌∙◌, subst, eq-eqb, eqb-true, lt-ltb, ltb-true, arith, IsTrue}
 use Rattle.std.proofs.lemmas.Bool.{false≢true}
 use Rattle.std.proofs.lemmas.Option.{slice_get_within}
 use Rattle.vx_flow.specs.declared.graph.Bank.{Bank}
@@ -16,12 +16,12 @@ use Rattle.vx_flow.specs.Rows.{is_marked, lives, row_at}
 use Rattle.vx_flow.proofs.Members.{set_there}
 use Rattle.vx_flow.specs.Sound.{HasExit, SoundFlow, targets_of}
 use Rattle.vx_flow.proofs.SoundLists.{all_in}
-use Rattle.vx_lower.proofs.Places.{set_same, set_other, set_length}
+use Rattle.vx_lower.proofs.Places.{set_other, set_length}
 use Rattle.vx_inline.specs.declared.site.Site.{Site}
 use Rattle.vx_inline.specs.Counts.{is_call}
 use Rattle.vx_inline.specs.Fitting.{calls_nothing, is_calling}
 use Rattle.vx_inline.specs.Finding.{call_in}
-use Rattle.vx_inline.specs.Inlined.{TheCall, CallAt, CallsTo, Inlined, IsPermitted, OnCycle, Reaches, is_plain, plain_before, moved, stayed, critical, behind, relinked_exit, all_plain, caller_at, callee_at, joined, taken, inlined_blocks}
+use Rattle.vx_inline.specs.Inlined.{TheCall, CallAt, CallsTo, Inlined, IsPermitted, OnCycle, Reaches, is_plain, moved, critical, behind, relinked_exit, all_plain, caller_at, callee_at, joined, taken, inlined_blocks}
 use Rattle.vx_inline.specs.Keeping.{Passes, KnowsBehind, KnowsLive, KnowsApart, KnowsSite, Knows, KeepsKnown, KeepsSite, LiveFor, NextKnown, front_of, returns_below, calls_stay}
 use Rattle.vx_inline.specs.declared.known.Known.{Known}
 use Rattle.vx_inline.specs.Permitting.{HasEnough, StandsApart}
@@ -32,7 +32,7 @@ use Rattle.vx_inline.proofs.Counts.{linked_calls, copied_calls, callee_calls_non
 use Rattle.vx_inline.proofs.Depth.{get_in}
 use Rattle.vx_inline.proofs.Edges.{in_there, Kept, AnEdge, ATrap, from_where}
 use Rattle.vx_inline.proofs.FlowSound.{graph_from}
-use Rattle.vx_inline.proofs.Joining.{block_is, caller_place, caller_low}
+use Rattle.vx_inline.proofs.Joining.{caller_place, caller_low}
 use Rattle.vx_inline.proofs.JoinedShape.{From, FromPlain, FromTrap, of_caller, of_call, of_callee, from_row, tail_kind, caller_target, rowed}
 use Rattle.vx_inline.proofs.LiveStays.{live_stays}
 use Rattle.vx_inline.proofs.Rests.{all_before}

@@ -1,5 +1,5 @@
 -- What is live at a block of the caller of an inlined call is live there still, and nothing else, where the callee passes.
-use Rattle.std.proofs.Common.{◌≡◌, ◌⊎◌, ◌↔◌, inl, inr, ℕ, ◌+◌, ◌<◌, Bool, true, false, cond, ◌==◌, List, [], ◌∷◌, ◌++◌, length, map, slice_get, Option, Some, None, refl, sym, ap, ◌∙◌, subst, eq-eqb, eqb-true, arith}
+use Rattle.std.proofs.Common.{◌≡◌, ◌⊎◌, ◌↔◌, inl, inr, ℕ, Bool, true, false, ◌==◌, List, [], ◌∷◌, ◌++◌, length, map, slice_get, Option, Some, None, refl, sym, ap, ◌∙◌, subst, eq-eqb, eqb-true, arith}
 use Rattle.std.proofs.lemmas.Bool.{false≢true}
 use Rattle.std.specs.List.{flat_map}
 use Rattle.vx_flow.specs.declared.graph.Bank.{Bank}
@@ -12,7 +12,7 @@ use Rattle.vx_flow.specs.declared.graph.Block.{Block}
 use Rattle.vx_flow.specs.declared.graph.Graph.{Graph}
 use Rattle.vx_flow.specs.declared.graph.Flow.{Flow}
 use Rattle.vx_flow.specs.declared.graph.Edge.{Edge}
-use Rattle.vx_flow.specs.Effects.{IsIn, value_in, reads, writes}
+use Rattle.vx_flow.specs.Effects.{IsIn, value_in, writes}
 use Rattle.vx_flow.specs.Live.{IsLive, ReadsFirst, NeverWrites, reads_of_exit}
 use Rattle.vx_flow.specs.Operands.{with_value_in, with_values}
 use Rattle.vx_flow.specs.Sound.{HasOperation, HasExit, SoundFlow, Callable, targets_of, results_of_exit}

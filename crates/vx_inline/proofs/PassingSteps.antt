@@ -1,9 +1,8 @@
 -- That a callee reads only parameters at its entry, and that it returns, as it is tested.
-use Rattle.std.proofs.Common.{◌≡◌, ◌⊎◌, ◌↔◌, inl, inr, ℕ, zero, suc, ◌<◌, length, get_or, arith, Bool, true, false, ◌==◌, List, [], ◌∷◌, slice_get, slice_set, slice_index_or, Option, Some, refl, sym, ap, ◌∙◌, subst, eqb-true, eq-eqb, IsTrue}
+use Rattle.std.proofs.Common.{◌≡◌, ◌⊎◌, ◌↔◌, inl, inr, ℕ, zero, suc, ◌<◌, length, get_or, arith, Bool, true, false, List, [], ◌∷◌, slice_get, slice_set, Some, refl, sym, ap, ◌∙◌, subst, IsTrue}
 use Rattle.std.proofs.lemmas.Bool.{false≢true}
 use Rattle.std.specs.Prelude.{replicate}
 use Rattle.std.specs.List.{list_all}
-use Rattle.vx_flow.specs.declared.graph.Operand.{Operand}
 use Rattle.vx_flow.specs.declared.graph.Exit.{Exit}
 use Rattle.vx_flow.specs.declared.graph.Exit.TheVariants.{Goto, Split, Call, Return, Ends}
 use Rattle.vx_flow.specs.declared.graph.Block.{Block}

@@ -106,12 +106,7 @@ fn is_apart(asked: &Asked, function: u32) -> bool
 }
 
 /// Whether of each bank as many values of the caller are free as the callee names, by what is known.
-fn has_room(
-    alloc: Global,
-    asked: &Asked,
-    site: &Site,
-    found: &FoundCall,
-) -> Result<bool, NoMemory>
+fn has_room(alloc: Global, asked: &Asked, site: &Site, found: &FoundCall) -> Result<bool, NoMemory>
     requires known { Knows asked.now.flow.now asked.now.known.now }
     requires found { call_in asked.now.flow.now site.now ≡ Some (seen found.now) }
     ensures { IfOk result (λ has. IsTrue has ↔ HasEnough (seen found.now)) }

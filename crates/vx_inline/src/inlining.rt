@@ -113,12 +113,7 @@ fn replaced(
 
 /// The graph of the caller with the callee in place of the call.
 #[tactic(auto, using(crate::proofs::InlinedBlocks::graph_is))]
-fn graph_of(
-    alloc: Global,
-    flow: &Flow,
-    site: &Site,
-    live: &Live,
-) -> Result<Graph, NoMemory>
+fn graph_of(alloc: Global, flow: &Flow, site: &Site, live: &Live) -> Result<Graph, NoMemory>
     requires { KnowsSite flow.now site.now live.now }
     ensures { IfOk result (λ graph. IsInlinedGraph flow.now site.now graph) }
 {

@@ -1,4 +1,4 @@
-use Rattle.std.proofs.Common.{None, ℕ, subst, sym}
+use Rattle.std.proofs.Common.{None, subst, sym}
 use Rattle.vx_flow.specs.declared.graph.Flow.{Flow}
 use Rattle.vx_inline.specs.declared.site.Site.{Site}
 use Rattle.vx_inline.specs.Repeating.{InlinesAll}
