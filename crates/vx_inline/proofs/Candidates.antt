@@ -1,19 +1,23 @@
 -- Which sites are permitted, and which are candidates, by what is found and tested.
-use Rattle.std.proofs.Common.{◌≡◌, ◌↔◌, ℕ, ◌+◌, Bool, true, false, ◌<◌, ◌≤◌, nat_lt, ltb-true, ltb-false, List, length, slice_get, Option, Some, None, refl, sym, ap, ◌∙◌, subst, arith, IsTrue}
+use Rattle.std.proofs.Common.{◌≡◌, ◌↔◌, ℕ, ◌+◌, Bool, true, false, ◌<◌, ◌≤◌, nat_lt, ltb-true, ltb-false, List, length, Option, Some, None, refl, sym, ap, ◌∙◌, subst, arith, IsTrue}
 use Rattle.std.proofs.lemmas.Bool.{false≢true}
 use Rattle.std.proofs.lemmas.Option.{slice_get_within}
-use Rattle.vx_flow.specs.declared.graph.Graph.{Graph}
 use Rattle.vx_flow.specs.declared.graph.Flow.{Flow}
 use Rattle.vx_flow.specs.Live.{IsLive}
-use Rattle.vx_flow.specs.Rows.{lives}
+use Rattle.vx_flow.specs.Rows.{is_marked, lives, row_at}
+use Rattle.vx_flow.specs.Sound.{HasExit}
+use Rattle.vx_flow.specs.declared.graph.Exit.TheVariants.{Call}
 use Rattle.vx_profile.specs.declared.counts.Counts.{Counts}
 use Rattle.vx_inline.specs.declared.site.Site.{Site}
 use Rattle.vx_inline.specs.Choosing.{IsCandidate, exceeds, NoneIsWorthIt, MayBeBetter}
 use Rattle.vx_inline.specs.Finding.{call_in}
 use Rattle.vx_inline.specs.Fitting.{fits, has_few}
 use Rattle.vx_inline.specs.Inlined.{TheCall, CallAt, Reaches, calls, through, Permitted}
+use Rattle.vx_inline.specs.Keeping.{Knows}
+use Rattle.vx_inline.specs.declared.known.Known.{Known}
 use Rattle.vx_inline.specs.Permitting.{StandsApart, Entered, HasEnough, MayInline}
 use Rattle.vx_inline.specs.Values.{has_values}
+use Rattle.vx_inline.proofs.Depth.{get_in}
 use Rattle.vx_inline.proofs.Finds.{call_there, call_found, CallFound}
 use Rattle.vx_inline.proofs.Fits.{may_be, is_so, few_in_words, few_as_test}
 use Rattle.vx_inline.proofs.Frees.{enough_exact}
@@ -83,25 +87,34 @@ apart_candidate flow most site k = (may_be flow site k.call k.free k.permitted).
 
 -- ---- with the values that are free
 
-caller_found : (flow : Flow) (site : Site) (c : TheCall) (caller : Graph) → call_in flow site ≡ Some c → slice_get flow.functions site.function ≡ Some caller → c.caller ≡ caller
-caller_found flow site c caller e q =
-    let w : CallFound flow site c = call_found flow site c e in
-    let r : Option.Some w.call.parts.caller ≡ Some caller = sym w.call.is_caller ∙ q in
-    let is : w.call.parts.caller ≡ caller = cc in
-    ap (λ (x : TheCall). x.caller) (sym w.is) ∙ is
+module _ (flow : Flow) (counts : Counts) (most : ℕ) (best : Option Site) (site : Site) (c : TheCall) (has : Bool) (apart : StandsApart flow site.function) (m : MayBeBetter flow counts most best site c) (room : IsTrue has ↔ HasEnough c) where
+  pub candidate_with : has ≡ true → IsCandidate flow most site
+  candidate_with h = candidate_by flow most site c m.is (record { fits = m.fits; apart = apart; enough = room.0 h }) m.few
 
-module _ (flow : Flow) (counts : Counts) (most : ℕ) (best : Option Site) (site : Site) (c : TheCall) (caller : Graph) (rows : List (List ℕ)) (is_caller : slice_get flow.functions site.function ≡ Some caller)
-    (exact : (b v : ℕ) → IsTrue (lives rows b v) ↔ IsLive caller b v) (apart : StandsApart flow site.function) (m : MayBeBetter flow counts most best site c) where
-  live_here : (b v : ℕ) → IsTrue (lives rows b v) ↔ IsLive c.caller b v
-  live_here = subst (λ (g : Graph). (b v : ℕ) → IsTrue (lives rows b v) ↔ IsLive g b v) (sym (caller_found flow site c caller m.is is_caller)) exact
-
-  pub candidate_with : has_values rows c ≡ true → IsCandidate flow most site
-  candidate_with h = candidate_by flow most site c m.is (record { fits = m.fits; apart = apart; enough = (enough_exact rows c live_here).0 h }) m.few
-
-  pub none_with : has_values rows c ≡ false → NoneIsWorthIt flow counts most best site
+  pub none_with : has ≡ false → NoneIsWorthIt flow counts most best site
   none_with h k e =
       let w : MayBeCandidate flow most site c = candidate_may flow most site c m.is k in
-      false≢true (sym h ∙ (enough_exact rows c live_here).1 w.may.enough)
+      false≢true (sym h ∙ room.1 w.may.enough)
+
+-- ---- by what is known
+
+module _ (flow : Flow) (site : Site) (c : TheCall) (known : Known) (knows : Knows flow known) (e : call_in flow site ≡ Some c) where
+  -- what is live behind the call
+  pub behind_known : (v : ℕ) → IsTrue (lives (row_at known.live.items site.function) c.next v) ↔ IsLive c.caller c.next v
+  behind_known =
+      let w : CallFound flow site c = call_found flow site c e in
+      let p : TheCall = w.call.parts in
+      let here : HasExit p.caller (Call p.called p.arguments p.result p.next) = record { block = p.block; has = get_in p.caller.blocks site.block p.block w.call.is_block; ends = sym w.call.ends } in
+      subst (λ (x : TheCall). (v : ℕ) → IsTrue (lives (row_at known.live.items site.function) x.next v) ↔ IsLive x.caller x.next v) w.is (knows.live site.function p.caller w.call.is_caller p.called p.next p.arguments p.result here)
+
+  pub enough_known : (rows : List (List ℕ)) (has : Bool) → row_at known.live.items site.function ≡ rows → has ≡ has_values rows c → IsTrue has ↔ HasEnough c
+  enough_known rows has r h =
+      subst (λ t. IsTrue t ↔ HasEnough c) (sym h) (enough_exact rows c (subst (λ (l : List (List ℕ)). (v : ℕ) → IsTrue (lives l c.next v) ↔ IsLive c.caller c.next v) r behind_known))
+
+  pub apart_known : is_marked known.apart.items site.function ≡ true → StandsApart flow site.function
+  apart_known t =
+      let w : CallFound flow site c = call_found flow site c e in
+      (knows.apart site.function (slice_get_within flow.functions site.function w.call.parts.caller w.call.is_caller)).0 t
 
 -- ---- what each test comes to
 
@@ -129,7 +142,7 @@ apart_tested flow rows count f apart exact n alone none either = (λ t. apart_by
     back false e s = absurd (not_apart flow rows count f exact (either e) s)
 
 pub enough_by : (rows : List (List ℕ)) (c : TheCall) (has : Bool) → ((b v : ℕ) → IsTrue (lives rows b v) ↔ IsLive c.caller b v) → has ≡ has_values rows c → IsTrue has ↔ HasEnough c
-enough_by rows c has exact e = subst (λ t. IsTrue t ↔ HasEnough c) (sym e) (enough_exact rows c exact)
+enough_by rows c has exact e = subst (λ t. IsTrue t ↔ HasEnough c) (sym e) (enough_exact rows c (λ v. exact c.next v))
 
 -- a call that is worth it, or none
 

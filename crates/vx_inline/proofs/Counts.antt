@@ -85,7 +85,7 @@ moved_calls at (Call f xs r d) = refl
 moved_calls at (Return x) = refl
 moved_calls at (Ends k) = refl
 
-linked_calls : (m : ℕ) (es : List Edge) (i : ℕ) (exit : Exit) → is_call (relinked_exit m es i exit) ≡ is_call exit
+pub linked_calls : (m : ℕ) (es : List Edge) (i : ℕ) (exit : Exit) → is_call (relinked_exit m es i exit) ≡ is_call exit
 linked_calls m es i (Goto d) = refl
 linked_calls m es i (Split p d f) = refl
 linked_calls m es i (Call f xs r d) = refl
@@ -160,7 +160,7 @@ calls_edges m es xs =
     let e : calls_in (take m xs) + calls_in (drop m xs) ≡ calls_in xs = calls_cut m xs in
     omega (arith, a, b, c, d, e)
 
-copied_calls : (copy to : ℕ → ℕ) (result : Option ℕ) (back : ℕ) (x : Block) → is_call x.exit ≡ false → is_call (copied copy to result back x).exit ≡ false
+pub copied_calls : (copy to : ℕ → ℕ) (result : Option ℕ) (back : ℕ) (x : Block) → is_call x.exit ≡ false → is_call (copied copy to result back x).exit ≡ false
 copied_calls copy to result back x e = by x.exit e
   where
     by : (exit : Exit) → is_call exit ≡ false → is_call (copied_as copy to result back (map (with_values to) x.ops) exit).exit ≡ false
@@ -185,7 +185,7 @@ calls_set (x ∷ xs) zero g h e k =
 calls_set (x ∷ xs) (suc f) g h e k = let r : calls_of (slice_set xs f h) + 1 ≡ calls_of xs = calls_set xs f g h e k in omega (arith, r)
 
 module _ (flow : Flow) (site : Site) (c : CallAt flow site) (free : Bank → List ℕ) (permitted : IsPermitted flow site c free) where
-  callee_calls_none : (x : Block) → IsIn x c.parts.callee.blocks → is_call x.exit ≡ false
+  pub callee_calls_none : (x : Block) → IsIn x c.parts.callee.blocks → is_call x.exit ≡ false
   callee_calls_none x m = by x.exit refl
     where
       by : (exit : Exit) → x.exit ≡ exit → is_call exit ≡ false

@@ -1,14 +1,14 @@
 -- The first of the candidates, one block and one function more at a time.
-use Rattle.std.proofs.Common.{◌≡◌, ◌⊎◌, ◌↔◌, inl, inr, ℕ, zero, suc, ◌+◌, ◌<◌, ◌≤◌, nat_lt, Bool, true, false, List, length, slice_get, Option, Some, None, refl, sym, ap, ◌∙◌, subst, arith, ltb-true, ltb-false, eqb-true, eq-eqb, ◌==◌, ◌&&◌, ◌||◌, IsTrue}
+use Rattle.std.proofs.Common.{◌≡◌, ◌⊎◌, inl, inr, ℕ, zero, suc, ◌+◌, ◌<◌, ◌≤◌, nat_lt, Bool, true, false, List, length, slice_get, Option, Some, None, refl, sym, ap, ◌∙◌, subst, arith, ltb-true, ltb-false, eqb-true, eq-eqb, ◌==◌, ◌&&◌, ◌||◌}
 use Rattle.std.proofs.lemmas.Bool.{false≢true}
 use Rattle.std.proofs.lemmas.Option.{slice_get_within}
 use Rattle.vx_flow.specs.declared.graph.Graph.{Graph}
 use Rattle.vx_flow.specs.declared.graph.Flow.{Flow}
 use Rattle.vx_profile.specs.declared.counts.Counts.{Counts}
-use Rattle.vx_flow.specs.Rows.{lives}
-use Rattle.vx_inline.specs.Inlined.{Reaches}
-use Rattle.vx_inline.specs.Permitting.{StandsApart, Entered}
-use Rattle.vx_inline.proofs.Candidates.{not_apart, apart_candidate}
+use Rattle.vx_flow.specs.Rows.{is_marked}
+use Rattle.vx_inline.specs.Keeping.{KnowsApart}
+use Rattle.vx_inline.specs.Permitting.{StandsApart}
+use Rattle.vx_inline.proofs.Candidates.{apart_candidate}
 use Rattle.vx_inline.specs.declared.site.Site.{Site}
 use Rattle.vx_inline.specs.Choosing.{IsCandidate, count_of, Below, ComesBefore, Chosen, Seeds, is_below, site_of, BestBefore, exceeds, NoneIsWorthIt}
 
@@ -185,5 +185,6 @@ module _ (flow : Flow) (counts : Counts) (most : ℕ) where
   pub passed_unworthy : (f n : ℕ) (graph : Graph) (best : Option Site) → slice_get flow.functions f ≡ Some graph → n ≡ length graph.blocks → ((b : ℕ) → b < n → NoneIsWorthIt flow counts most best (site_of f b)) → BestBefore flow counts most f 0 best → BestBefore flow counts most (f + 1) 0 best
   passed_unworthy f n graph best e q u h = best_closed f n graph best e (sym q) (best_stays_all f n best u h)
 
-  pub passed_entered : (f : ℕ) (best : Option Site) (rows : List (List ℕ)) (count : ℕ) → ((g k : ℕ) → IsTrue (lives rows g k) ↔ Reaches flow g k) → (lives rows f f ≡ false → Entered rows count f) → BestBefore flow counts most f 0 best → BestBefore flow counts most (f + 1) 0 best
-  passed_entered f best rows count exact either h = best_passed f best (λ other k q. not_apart flow rows count f exact either (subst (StandsApart flow) q (apart_candidate flow most other k))) h
+  pub passed_apart : (f : ℕ) (best : Option Site) (graph : Graph) (apart : List Bool) → KnowsApart flow apart → slice_get flow.functions f ≡ Some graph → is_marked apart f ≡ false → BestBefore flow counts most f 0 best → BestBefore flow counts most (f + 1) 0 best
+  passed_apart f best graph apart k e n h =
+      best_passed f best (λ other o q. false≢true (sym n ∙ (k f (slice_get_within flow.functions f graph e)).1 (subst (StandsApart flow) q (apart_candidate flow most other o)))) h

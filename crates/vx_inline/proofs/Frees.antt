@@ -82,7 +82,7 @@ in_value_list (Some u) v (inr z) = absurd z
 value_list_in : (o : Option ℕ) (v : ℕ) → o ≡ Some v → IsIn v (value_list o)
 value_list_in o v e = subst (λ x. IsIn v (value_list x)) (sym e) (inl refl)
 
-module _ (rows : List (List ℕ)) (c : TheCall) (exact : (b v : ℕ) → IsTrue (lives rows b v) ↔ IsLive c.caller b v) where
+module _ (rows : List (List ℕ)) (c : TheCall) (exact : (v : ℕ) → IsTrue (lives rows c.next v) ↔ IsLive c.caller c.next v) where
   abbrev behind : List ℕ
   behind = row_at rows c.next
 
@@ -105,7 +105,7 @@ module _ (rows : List (List ℕ)) (c : TheCall) (exact : (b v : ℕ) → IsTrue 
           f.place q.0 q.1 (record { block = r.item; has = r.has; stands = subst (λ o. IsIn o r.item.ops) q.2 s.has }) q.3
 
       by_first : IsIn v behind ⊎ IsIn v arguments → ⊥
-      by_first (inl k) = f.dead ((exact c.next v).0 (in_any v behind k))
+      by_first (inl k) = f.dead ((exact v).0 (in_any v behind k))
       by_first (inr k) = f.argument k
 
       by_three : IsIn v (behind ++ arguments) ⊎ IsIn v takers → ⊥
@@ -118,7 +118,7 @@ module _ (rows : List (List ℕ)) (c : TheCall) (exact : (b v : ℕ) → IsTrue 
 
   kept_free : (v : ℕ) → (IsIn v (kept rows c) → ⊥) → IsFree c v
   kept_free v n = record {
-    dead = λ l. n (in_left v (behind ++ arguments ++ takers) places (in_left v (behind ++ arguments) takers (in_left v behind arguments (any_in v behind ((exact c.next v).1 l)))));
+    dead = λ l. n (in_left v (behind ++ arguments ++ takers) places (in_left v (behind ++ arguments) takers (in_left v behind arguments (any_in v behind ((exact v).1 l)))));
     argument = λ k. n (in_left v (behind ++ arguments ++ takers) places (in_left v (behind ++ arguments) takers (in_right v behind arguments k)));
     result = λ e. n (in_left v (behind ++ arguments ++ takers) places (in_right v (behind ++ arguments) takers (value_list_in c.result v e)));
     place = λ a i h l. n (in_right v (behind ++ arguments ++ takers) places

@@ -14,14 +14,15 @@ use Rattle.vx_inline.specs.declared.site.Site.{Site}
 use Rattle.vx_inline.specs.Finding.{call_in}
 use Rattle.vx_inline.specs.Inlined.{TheCall, AreFree, taken, placed, spliced, critical, with_edges, callers_plain, all_plain, all_kinds, inlined_blocks}
 use Rattle.vx_inline.specs.Inlining.{joined_by, linked_by, inlined_by, IsInlinedBlocks, IsInlinedGraph}
+use Rattle.vx_inline.specs.Keeping.{KnowsSite}
 use Rattle.vx_inline.specs.Placing.{place_in}
 use Rattle.vx_inline.specs.Values.{of_bank, free_of}
-use Rattle.vx_inline.proofs.Finds.{call_there}
+use Rattle.vx_inline.proofs.Finds.{call_there, call_found, CallFound}
 use Rattle.vx_inline.proofs.Frees.{free_exact}
 use Rattle.vx_inline.proofs.One.{frees_same}
 
 -- whichever way the free values are told
-pub any_free : (rows : List (List ℕ)) (c : TheCall) (site : ℕ) (values : ByBank) (blocks : List Block) → ((b v : ℕ) → IsTrue (lives rows b v) ↔ IsLive c.caller b v) → ((bank : Bank) → of_bank values bank ≡ free_of rows c bank) →
+pub any_free : (rows : List (List ℕ)) (c : TheCall) (site : ℕ) (values : ByBank) (blocks : List Block) → ((v : ℕ) → IsTrue (lives rows c.next v) ↔ IsLive c.caller c.next v) → ((bank : Bank) → of_bank values bank ≡ free_of rows c bank) →
     blocks ≡ inlined_blocks c site (of_bank values) → IsInlinedBlocks c site blocks
 any_free rows c site values blocks exact h e free are =
     let each : (bank : Bank) → of_bank values bank ≡ free bank = λ bank. h bank ∙ frees_same c bank (free_of rows c bank) (free bank) (free_exact rows c exact bank) (are bank) in
@@ -49,3 +50,16 @@ graph_is flow site c blocks graph e h g d free p =
     let is : d.parts ≡ c = cc in
     let b : blocks ≡ inlined_blocks c site.block free = h free (subst (λ (x : TheCall). (bank : Bank) → AreFree x bank (free bank)) is p.are_free) in
     g ∙ ap (λ bs. record c.caller { blocks = bs }) b ∙ ap (λ (x : TheCall). record x.caller { blocks = inlined_blocks x site.block free }) (sym is)
+
+-- what is live behind the call that is found
+
+pub behind_found : (flow : Flow) (site : Site) (c : TheCall) (rows : List (List ℕ)) → KnowsSite flow site rows → call_in flow site ≡ Some c → (v : ℕ) → IsTrue (lives rows c.next v) ↔ IsLive c.caller c.next v
+behind_found flow site c rows k e =
+    let w : CallFound flow site c = call_found flow site c e in
+    subst (λ (x : TheCall). (v : ℕ) → IsTrue (lives rows x.next v) ↔ IsLive x.caller x.next v) w.is (k w.call)
+
+pub found_behind : (flow : Flow) (site : Site) (c : TheCall) (rows : List (List ℕ)) → call_in flow site ≡ Some c → ((b v : ℕ) → IsTrue (lives rows b v) ↔ IsLive c.caller b v) → KnowsSite flow site rows
+found_behind flow site c rows e exact d v =
+    let q : Option.Some d.parts ≡ Some c = sym (call_there flow site d) ∙ e in
+    let is : c ≡ d.parts = cc in
+    subst (λ (x : TheCall). IsTrue (lives rows x.next v) ↔ IsLive x.caller x.next v) is (exact c.next v)

@@ -1,5 +1,5 @@
 -- The flow with a permitted call inlined has the callee in place of the call.
-use Rattle.std.proofs.Common.{◌≡◌, ℕ, ◌+◌, ◌<◌, ◌≤◌, Bool, true, false, cond, ◌==◌, nat_lt, not, ℤ, List, [], ◌++◌, length, map, slice_get, slice_set, Option, Some, None, refl, sym, ap, ◌∙◌, subst, eq-eqb, ltb-true, ltb-false, lt-ltb, arith, append-nil}
+use Rattle.std.proofs.Common.{◌≡◌, ℕ, ◌+◌, ◌<◌, ◌≤◌, Bool, true, false, cond, ◌==◌, nat_lt, ℤ, List, [], ◌++◌, length, map, slice_get, slice_set, Option, Some, None, refl, sym, ap, ◌∙◌, subst, eq-eqb, ltb-true, ltb-false, lt-ltb, arith, append-nil}
 use Rattle.std.proofs.lemmas.Bool.{false≢true}
 use Rattle.std.proofs.lemmas.Option.{slice_get_within, slice_get-map}
 use Rattle.std.specs.List.{filter}
@@ -18,7 +18,7 @@ use Rattle.vx_flow.specs.declared.graph.Edge.{Edge}
 use Rattle.vx_flow.specs.Effects.{IsIn}
 use Rattle.vx_flow.specs.Meaning.{graph_run}
 use Rattle.vx_flow.specs.Operands.{with_value_in, with_values}
-use Rattle.vx_flow.specs.Sound.{HasExit, SoundFlow, Sound, is_own}
+use Rattle.vx_flow.specs.Sound.{HasExit, SoundFlow, Sound}
 use Rattle.vx_flow.proofs.Members.{in_left, in_right}
 use Rattle.vx_lower.proofs.Places.{set_same, set_other}
 use Rattle.vx_inline.specs.declared.site.Site.{Site}
@@ -233,7 +233,7 @@ module _ (flow : Flow) (site : Site) (c : CallAt flow site) (free : Bank → Lis
   copied_here ops (Return v) x h = record { more = moves_out c.parts.result (with_value_in to v); is = refl; copies = (refl, refl) }
   copied_here ops (Ends k) x h = record { more = []; is = sym (append-nil ops); copies = (refl, refl) }
 
-  stands : (b : ℕ) (block : Block) → slice_get B b ≡ Some block → Stands F copy to c.parts.result (at c.parts.next) block (copy b)
+  pub stands : (b : ℕ) (block : Block) → slice_get B b ≡ Some block → Stands F copy to c.parts.result (at c.parts.next) block (copy b)
   stands b block e = by (is_plain block) refl
     where
       by : (t : Bool) → is_plain block ≡ t → Stands F copy to c.parts.result (at c.parts.next) block (copy b)

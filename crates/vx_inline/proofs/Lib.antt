@@ -10,6 +10,7 @@ pub mod Joining
 pub mod JoinedShape
 pub mod JoinedSound
 pub mod FlowSound
+pub mod LiveStays
 pub mod Programs
 pub mod Rows
 pub mod Edges
@@ -27,5 +28,7 @@ pub mod Tables
 pub mod Placing
 pub mod Splicing
 pub mod Linking
+pub mod KnownStays
+pub mod PassingSteps
 pub mod Stepping
 pub mod InlinedBlocks

@@ -35,7 +35,7 @@ moves_next to q qs (x ∷ xs) (suc i) = moves_next to q qs xs i
 
 -- ---- one block, or one parameter more
 
-at_next : {X Y : Type 0} (F : List X → Y) (xs : List X) (i : ℕ) (d : X) → i < length xs → d ≡ get_or xs i d → F (drop i xs) ≡ F (d ∷ drop (i + 1) xs)
+pub at_next : {X Y : Type 0} (F : List X → Y) (xs : List X) (i : ℕ) (d : X) → i < length xs → d ≡ get_or xs i d → F (drop i xs) ≡ F (d ∷ drop (i + 1) xs)
 at_next F xs i d l e =
     let a : suc i ≡ i + 1 = omega arith in
     ap F (drop-cons xs i d l) ∙ ap (λ x. F (x ∷ drop (suc i) xs)) (sym e) ∙ ap (λ k. F (d ∷ drop k xs)) a

@@ -9,6 +9,7 @@ pub mod Finding
 pub mod Fitting
 pub mod Values
 pub mod Permitting
+pub mod Keeping
 pub mod Choosing
 pub mod Taking
 pub mod Placing

@@ -2,40 +2,37 @@
 
 ghost use Rattle.std.specs.Prelude.{◌≡◌, ◌+◌, ◌<◌, ◌↔◌, ℕ, false, IfOk, IsTrue, Some, is_some, length, slice_get};
 ghost use Rattle.std.specs.Option.{option_map};
-ghost use Rattle.vx_flow.specs.Live.{IsLive};
-ghost use Rattle.vx_flow.specs.Rows.{lives};
+ghost use Rattle.vx_flow.specs.Rows.{is_marked};
 ghost use Rattle.vx_flow.specs.Sound.{SoundFlow};
 ghost use Rattle.vx_inline.specs.Choosing.{BestBefore, Chosen, IsWorthIt, NoneIsWorthIt, Seeds, exceeds, is_below, site_of};
 ghost use Rattle.vx_inline.specs.Finding.{call_in, seen};
-ghost use Rattle.vx_inline.specs.Inlined.{Reaches};
-ghost use Rattle.vx_inline.specs.Permitting.{StandsApart};
+ghost use Rattle.vx_inline.specs.Keeping.{Knows};
+ghost use Rattle.vx_inline.specs.Permitting.{HasEnough, StandsApart};
 
-use crate::called::reached;
 use crate::fitting::{fits, has_few};
 use crate::found_call::{FoundCall, find};
 use crate::free_values::has_values;
-use crate::permission::{has_enough, is_apart};
+use crate::known::{Known, known_of};
+use crate::marks::is_marked;
 use crate::site::Site;
 use std::alloc::Global;
 use vx_base::outcome::NoMemory;
 use vx_base::sizes::number_of;
 use vx_flow::graph::{Flow, Graph};
-use vx_flow::live;
 use vx_flow::live_rows::Live;
 use vx_profile::counts::Counts;
 
-/// What is chosen by: the flow, the counts of its blocks, and the most operations of a callee.
+/// What is chosen by: the flow, what is known of it, the counts of its blocks, and the most operations of a callee.
 #[derive(Clone, Copy)]
 pub struct Asked<'a> {
     pub flow: &'a Flow,
+    pub known: &'a Known,
     pub counts: &'a Counts,
     pub most: u32,
 }
 
 /// Among the permitted sites whose callee has at most so many operations, the one whose block has the greatest count; on ties the
-/// one of the lowest function, and then the lowest block. None where there is no such site. All are compared with a likely one, so
-/// that what is live is seldom looked for in other functions than its own.
-#[tactic(auto, using(crate::proofs::Firsts::best_first, crate::proofs::Firsts::chosen_last))]
+/// one of the lowest function, and then the lowest block. None where there is no such site.
 pub fn choose(
     alloc: Global,
     flow: &Flow,
@@ -45,51 +42,53 @@ pub fn choose(
     requires sound { SoundFlow flow.now }
     ensures chosen { IfOk result (λ site. Chosen flow.now counts.now most site) }
 {
-    let functions = number_of(flow.functions.len())?;
-    let reached = reached(alloc, flow)?;
-    let asked = Asked { flow, counts, most };
-    let mut best = seed(alloc, &asked, &reached, functions)?;
+    let known = known_of(alloc, flow)?;
+    let asked = Asked {
+        flow,
+        known: &known,
+        counts,
+        most,
+    };
+    chosen(alloc, &asked)
+}
+
+/// The site that is chosen by what is known. All are compared with a likely one, so that free values are seldom looked for at
+/// another than the one that is chosen.
+#[tactic(auto, using(crate::proofs::Firsts::best_first, crate::proofs::Firsts::chosen_last))]
+pub(crate) fn chosen(alloc: Global, asked: &Asked) -> Result<Option<Site>, NoMemory>
+    requires known { Knows asked.now.flow.now asked.now.known.now }
+    ensures chosen { IfOk result (λ site. Chosen asked.now.flow.now asked.now.counts.now asked.now.most site) }
+{
+    let functions = number_of(asked.flow.functions.len())?;
+    let mut best = seed(alloc, asked, functions)?;
     for function in 0..functions {
-        best = best_with(alloc, &asked, &reached, function, best)?;
+        best = best_with(alloc, asked, function, best)?;
     }
     Ok(best)
 }
 
 /// The site that comes first by what costs little, if it is permitted.
-fn seed(
-    alloc: Global,
-    asked: &Asked,
-    reached: &Live,
-    functions: u32,
-) -> Result<Option<Site>, NoMemory>
-    requires reached { (f g : ℕ) → IsTrue (lives reached.now f g) ↔ Reaches asked.now.flow.now f g }
-    requires count { functions ≡ length asked.now.flow.now.functions }
+fn seed(alloc: Global, asked: &Asked, functions: u32) -> Result<Option<Site>, NoMemory>
+    requires known { Knows asked.now.flow.now asked.now.known.now }
     ensures { IfOk result (λ site. Seeds asked.now.flow.now asked.now.most site) }
 {
-    match likely(asked, reached, functions) {
-        Some(site) => tested(alloc, asked, reached, functions, site),
+    match likely(asked, functions) {
+        Some(site) => tested(alloc, asked, site),
         None => Ok(None),
     }
 }
 
 /// The site, if it is permitted and its callee has few operations.
-fn tested(
-    alloc: Global,
-    asked: &Asked,
-    reached: &Live,
-    functions: u32,
-    site: Site,
-) -> Result<Option<Site>, NoMemory>
-    requires reached { (f g : ℕ) → IsTrue (lives reached.now f g) ↔ Reaches asked.now.flow.now f g }
-    requires count { functions ≡ length asked.now.flow.now.functions }
+fn tested(alloc: Global, asked: &Asked, site: Site) -> Result<Option<Site>, NoMemory>
+    requires known { Knows asked.now.flow.now asked.now.known.now }
     ensures { IfOk result (λ site. Seeds asked.now.flow.now asked.now.most site) }
 {
-    if !is_apart(reached, functions, site.function) {
+    if !is_apart(asked, site.function) {
         return Ok(None);
     }
     match worth_it(asked, &site, None) {
         Some(found) => {
-            if has_enough(alloc, &found)? {
+            if has_room(alloc, asked, &site, &found)? {
                 Ok(Some(site))
             } else {
                 Ok(None)
@@ -99,39 +98,59 @@ fn tested(
     }
 }
 
+/// Whether a function is known to be on no cycle of calls, and reached by none on one.
+fn is_apart(asked: &Asked, function: u32) -> bool
+    ensures { result ≡ is_marked asked.now.known.now.apart.items function }
+{
+    is_marked(asked.known.apart.as_slice(), function)
+}
+
+/// Whether of each bank as many values of the caller are free as the callee names, by what is known.
+fn has_room(alloc: Global, asked: &Asked, site: &Site, found: &FoundCall) -> Result<bool, NoMemory>
+    requires known { Knows asked.now.flow.now asked.now.known.now }
+    requires found { call_in asked.now.flow.now site.now ≡ Some (seen found.now) }
+    ensures { IfOk result (λ has. IsTrue has ↔ HasEnough (seen found.now)) }
+{
+    match asked.known.live.as_slice().get(site.function as usize) {
+        Some(live) => has_room_by(alloc, asked, site, found, live),
+        None => Err(NoMemory),
+    }
+}
+
+fn has_room_by(
+    alloc: Global,
+    asked: &Asked,
+    site: &Site,
+    found: &FoundCall,
+    live: &Live,
+) -> Result<bool, NoMemory>
+    requires known { Knows asked.now.flow.now asked.now.known.now }
+    requires found { call_in asked.now.flow.now site.now ≡ Some (seen found.now) }
+    requires live { slice_get asked.now.known.now.live.items site.now.function ≡ Some live.now }
+    ensures { IfOk result (λ has. IsTrue has ↔ HasEnough (seen found.now)) }
+{
+    has_values(alloc, live, found)
+}
+
 /// The site that comes first by what costs little.
-fn likely(asked: &Asked, reached: &Live, functions: u32) -> Option<Site> {
+fn likely(asked: &Asked, functions: u32) -> Option<Site> {
     let mut best = None;
     for function in 0..functions {
-        best = likely_with(asked, reached, functions, function, best);
+        best = likely_with(asked, function, best);
     }
     best
 }
 
-fn likely_with(
-    asked: &Asked,
-    reached: &Live,
-    functions: u32,
-    function: u32,
-    best: Option<Site>,
-) -> Option<Site> {
+fn likely_with(asked: &Asked, function: u32, best: Option<Site>) -> Option<Site> {
     match asked.flow.functions.as_slice().get(function as usize) {
         Some(caller) => {
-            let new = likely_of(asked, function, caller.blocks.len() as u32, best);
-            if !is_of(new, function) || is_apart(reached, functions, function) {
-                new
+            if is_apart(asked, function) {
+                likely_of(asked, function, caller.blocks.len() as u32, best)
             } else {
                 best
             }
         }
         None => best,
-    }
-}
-
-fn is_of(site: Option<Site>, function: u32) -> bool {
-    match site {
-        Some(site) => site.function == function,
-        None => false,
     }
 }
 
@@ -151,44 +170,40 @@ fn likely_of(asked: &Asked, function: u32, blocks: u32, best: Option<Site>) -> O
 fn best_with(
     alloc: Global,
     asked: &Asked,
-    reached: &Live,
     function: u32,
     best: Option<Site>,
 ) -> Result<Option<Site>, NoMemory>
-    requires reached { (f g : ℕ) → IsTrue (lives reached.now f g) ↔ Reaches asked.now.flow.now f g }
+    requires known { Knows asked.now.flow.now asked.now.known.now }
     requires best { BestBefore asked.now.flow.now asked.now.counts.now asked.now.most function 0 best }
     ensures { IfOk result (λ new. BestBefore asked.now.flow.now asked.now.counts.now asked.now.most (function + 1) 0 new) }
 {
     match asked.flow.functions.as_slice().get(function as usize) {
-        Some(caller) => best_in(alloc, asked, reached, function, caller, best),
+        Some(caller) => best_in(alloc, asked, function, caller, best),
         None => Ok(best),
     }
 }
 
-#[tactic(auto, using(crate::proofs::Firsts::passed_unworthy, crate::proofs::Firsts::passed_entered, crate::proofs::Firsts::best_closed, crate::proofs::Candidates::apart_by))]
+#[tactic(auto, using(crate::proofs::Firsts::passed_unworthy, crate::proofs::Firsts::passed_apart, crate::proofs::Firsts::best_closed))]
 fn best_in(
     alloc: Global,
     asked: &Asked,
-    reached: &Live,
     function: u32,
     caller: &Graph,
     best: Option<Site>,
 ) -> Result<Option<Site>, NoMemory>
-    requires reached { (f g : ℕ) → IsTrue (lives reached.now f g) ↔ Reaches asked.now.flow.now f g }
+    requires known { Knows asked.now.flow.now asked.now.known.now }
     requires caller { slice_get asked.now.flow.now.functions function ≡ Some caller.now }
     requires best { BestBefore asked.now.flow.now asked.now.counts.now asked.now.most function 0 best }
     ensures { IfOk result (λ new. BestBefore asked.now.flow.now asked.now.counts.now asked.now.most (function + 1) 0 new) }
 {
     let blocks = number_of(caller.blocks.len())?;
-    let functions = number_of(asked.flow.functions.len())?;
     if !has_worthy(asked, function, blocks, best) {
         return Ok(best);
     }
-    if !is_apart(reached, functions, function) {
+    if !is_apart(asked, function) {
         return Ok(best);
     }
-    let live = live(alloc, caller)?;
-    best_of(alloc, asked, &live, function, caller, blocks, best)
+    best_of(alloc, asked, function, blocks, best)
 }
 
 /// Whether some block of a function may come before the best, by what costs little.
@@ -259,21 +274,18 @@ fn is_below(site: &Site, other: &Site) -> bool
 fn best_of(
     alloc: Global,
     asked: &Asked,
-    live: &Live,
     function: u32,
-    caller: &Graph,
     blocks: u32,
     best: Option<Site>,
 ) -> Result<Option<Site>, NoMemory>
-    requires live { (b v : ℕ) → IsTrue (lives live.now b v) ↔ IsLive caller.now b v }
-    requires caller { slice_get asked.now.flow.now.functions function ≡ Some caller.now }
+    requires known { Knows asked.now.flow.now asked.now.known.now }
     requires apart { StandsApart asked.now.flow.now function }
     requires best { BestBefore asked.now.flow.now asked.now.counts.now asked.now.most function 0 best }
     ensures { IfOk result (λ new. BestBefore asked.now.flow.now asked.now.counts.now asked.now.most function blocks new) }
 {
     let mut best = best;
     for block in 0..blocks {
-        best = best_at(alloc, asked, live, caller, Site { function, block }, best)?;
+        best = best_at(alloc, asked, Site { function, block }, best)?;
     }
     Ok(best)
 }
@@ -282,20 +294,17 @@ fn best_of(
 fn best_at(
     alloc: Global,
     asked: &Asked,
-    live: &Live,
-    caller: &Graph,
     site: Site,
     best: Option<Site>,
 ) -> Result<Option<Site>, NoMemory>
-    requires live { (b v : ℕ) → IsTrue (lives live.now b v) ↔ IsLive caller.now b v }
-    requires caller { slice_get asked.now.flow.now.functions site.function ≡ Some caller.now }
+    requires known { Knows asked.now.flow.now asked.now.known.now }
     requires apart { StandsApart asked.now.flow.now site.function }
     requires best { BestBefore asked.now.flow.now asked.now.counts.now asked.now.most site.function site.block best }
     ensures { IfOk result (λ new. BestBefore asked.now.flow.now asked.now.counts.now asked.now.most site.function (site.block + 1) new) }
 {
     match worth_it(asked, &site, best) {
         Some(found) => {
-            if has_values(alloc, live, &found)? {
+            if has_room(alloc, asked, &site, &found)? {
                 Ok(Some(site))
             } else {
                 Ok(best)

@@ -19,7 +19,8 @@ pub(crate) fn fits(found: &FoundCall) -> bool
         && are_left_short(found.callee.blocks.as_slice(), found.result)
 }
 
-fn calls_nothing(blocks: &[Block]) -> bool
+/// Whether no block ends by a call.
+pub(crate) fn calls_nothing(blocks: &[Block]) -> bool
     ensures { result ≡ calls_nothing blocks.now }
 {
     for block in blocks {

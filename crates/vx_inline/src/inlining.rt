@@ -1,13 +1,16 @@
 // A flow with the call of a permitted site inlined.
 
-ghost use Rattle.std.specs.Prelude.{◌≡◌, ℕ, true, IfOk, slice_set};
+ghost use Rattle.std.specs.Prelude.{◌≡◌, ◌↔◌, ℕ, true, IfOk, IsTrue, slice_set};
 ghost use Rattle.vx_ast.specs.Accepted.{is_accepted};
 ghost use Rattle.vx_ast.specs.Tree.{Program};
+ghost use Rattle.vx_flow.specs.Live.{IsLive};
+ghost use Rattle.vx_flow.specs.Rows.{lives};
 ghost use Rattle.vx_flow.specs.Sound.{SoundFlow};
 ghost use Rattle.vx_lower.specs.FlowOf.{FlowOf};
 ghost use Rattle.vx_inline.specs.Finding.{seen};
 ghost use Rattle.vx_inline.specs.Inlined.{Inlined, Permitted, inlined_blocks};
 ghost use Rattle.vx_inline.specs.Inlining.{IsInlinedBlocks, IsInlinedGraph, inlined_by, joined_by, with_graph};
+ghost use Rattle.vx_inline.specs.Keeping.{KnowsSite};
 ghost use Rattle.vx_inline.specs.Taking.{value_at};
 ghost use Rattle.vx_inline.specs.Values.{of_bank};
 
@@ -26,6 +29,7 @@ use vx_base::sizes::sum;
 use vx_flow::copies::with_blocks;
 use vx_flow::graph::{Block, BlockId, Flow, Graph, Value};
 use vx_flow::live;
+use vx_flow::live_rows::Live;
 
 /// The flow with the call of a permitted site inlined: what the callee names takes free values of the caller, its blocks stand
 /// behind those of the caller, and what the flow is of it is still.
@@ -40,12 +44,37 @@ pub fn inline_one(alloc: Global, flow: Flow, site: Site) -> Result<Flow, NoMemor
     with_call(alloc, flow, site)
 }
 
-#[tactic(auto, using(crate::proofs::Stepping::is_inlined))]
 fn with_call(alloc: Global, flow: Flow, site: Site) -> Result<Flow, NoMemory>
     requires permitted { Permitted flow site }
     ensures { IfOk result (λ new. Inlined flow site new) }
 {
-    let graph = graph_of(alloc, &flow, &site)?;
+    let live = live_in(alloc, &flow, &site)?;
+    with_live(alloc, flow, site, &live)
+}
+
+/// What is live at the blocks of the caller.
+fn live_in(alloc: Global, flow: &Flow, site: &Site) -> Result<Live, NoMemory>
+    ensures { IfOk result (λ live. KnowsSite flow.now site.now live) }
+{
+    match find(flow, site) {
+        Some(found) => live(alloc, found.caller),
+        None => Err(NoMemory),
+    }
+}
+
+/// The flow with the call inlined, by what is live behind it.
+#[tactic(auto, using(crate::proofs::Stepping::is_inlined))]
+pub(crate) fn with_live(
+    alloc: Global,
+    flow: Flow,
+    site: Site,
+    live: &Live,
+) -> Result<Flow, NoMemory>
+    requires permitted { Permitted flow site }
+    requires live { KnowsSite flow site live.now }
+    ensures inlined { IfOk result (λ new. Inlined flow site new) }
+{
+    let graph = graph_of(alloc, &flow, &site, live)?;
     with_graph(flow, site.function, graph)
 }
 
@@ -84,12 +113,13 @@ fn replaced(
 
 /// The graph of the caller with the callee in place of the call.
 #[tactic(auto, using(crate::proofs::InlinedBlocks::graph_is))]
-fn graph_of(alloc: Global, flow: &Flow, site: &Site) -> Result<Graph, NoMemory>
+fn graph_of(alloc: Global, flow: &Flow, site: &Site, live: &Live) -> Result<Graph, NoMemory>
+    requires { KnowsSite flow.now site.now live.now }
     ensures { IfOk result (λ graph. IsInlinedGraph flow.now site.now graph) }
 {
     match find(flow, site) {
         Some(found) => {
-            let blocks = inlined(alloc, &found, site.block)?;
+            let blocks = inlined(alloc, &found, site.block, live)?;
             with_blocks(alloc, found.caller, blocks)
         }
         None => Err(NoMemory),
@@ -97,11 +127,16 @@ fn graph_of(alloc: Global, flow: &Flow, site: &Site) -> Result<Graph, NoMemory>
 }
 
 #[tactic(auto, using(crate::proofs::InlinedBlocks::any_free))]
-fn inlined(alloc: Global, found: &FoundCall, site: BlockId) -> Result<Listed<Block>, NoMemory>
+fn inlined(
+    alloc: Global,
+    found: &FoundCall,
+    site: BlockId,
+    live: &Live,
+) -> Result<Listed<Block>, NoMemory>
+    requires { (v : ℕ) → IsTrue (lives live.now found.now.next v) ↔ IsLive found.now.caller.now found.now.next v }
     ensures { IfOk result (λ blocks. IsInlinedBlocks (seen found.now) site blocks) }
 {
-    let live = live(alloc, found.caller)?;
-    let free = free_values(alloc, &live, found)?;
+    let free = free_values(alloc, live, found)?;
     inlined_with(alloc, found, site, &free)
 }
 

@@ -18,7 +18,8 @@ pub(crate) fn marks_of(alloc: Global, count: usize, values: &[Value]) -> Result<
     Ok(marks)
 }
 
-fn unmarked(alloc: Global, count: usize) -> Result<Vec<bool>, NoMemory>
+/// A table of so many values, none of them marked.
+pub(crate) fn unmarked(alloc: Global, count: usize) -> Result<Vec<bool>, NoMemory>
     ensures { IfOk result (λ marks. marks.items ≡ replicate count false) }
 {
     Ok(vec![in alloc; false; count]?)
@@ -32,7 +33,8 @@ fn mark_all(marks: &mut Vec<bool>, values: &[Value])
     }
 }
 
-fn mark(marks: &mut Vec<bool>, value: Value)
+/// Marks a value, if the table has it.
+pub(crate) fn mark(marks: &mut Vec<bool>, value: Value)
     ensures { marks.new.items ≡ slice_set marks.old.items value true }
 {
     if (value as usize) < marks.len() {
@@ -45,6 +47,16 @@ pub(crate) fn is_marked(marks: &[bool], value: Value) -> bool
     ensures { result ≡ is_marked marks.now value }
 {
     match marks.get(value as usize) {
+        Some(marked) => *marked,
+        None => false,
+    }
+}
+
+/// Whether what stands at a place is marked.
+pub(crate) fn is_marked_at(marks: &[bool], place: usize) -> bool
+    ensures { result ≡ is_marked marks.now place }
+{
+    match marks.get(place) {
         Some(marked) => *marked,
         None => false,
     }

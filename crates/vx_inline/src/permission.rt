@@ -4,7 +4,7 @@ ghost use Rattle.std.specs.Prelude.{◌≡◌, ◌↔◌, ◌<◌, ℕ, true, fa
 ghost use Rattle.vx_flow.specs.Rows.{lives};
 ghost use Rattle.vx_flow.specs.Sound.{SoundFlow};
 ghost use Rattle.vx_inline.specs.Finding.{seen};
-ghost use Rattle.vx_inline.specs.Inlined.{Permitted};
+ghost use Rattle.vx_inline.specs.Inlined.{Permitted, Reaches};
 ghost use Rattle.vx_inline.specs.Permitting.{Entered, HasEnough, MayInline, StandsApart};
 
 use crate::called::reached;
@@ -51,17 +51,27 @@ fn may_inline(
     has_enough(alloc, found)
 }
 
+/// Whether a function is on no cycle of calls, and no function on one reaches it.
 fn stands_apart(alloc: Global, flow: &Flow, function: u32) -> Result<bool, NoMemory>
     ensures { IfOk result (λ apart. IsTrue apart ↔ StandsApart flow.now function) }
 {
     let count = number_of(flow.functions.len())?;
     let reached = reached(alloc, flow)?;
-    Ok(is_apart(&reached, count, function))
+    Ok(stands_by(flow, &reached, count, function))
 }
 
-/// Whether a function is on no cycle of calls, and no function on one reaches it.
+/// The same by what each function reaches.
+pub(crate) fn stands_by(flow: &Flow, reached: &Live, count: u32, function: u32) -> bool
+    requires reached { (f g : ℕ) → IsTrue (lives reached.now f g) ↔ Reaches flow.now f g }
+    requires count { count ≡ length flow.now.functions }
+    ensures { IsTrue result ↔ StandsApart flow.now function }
+{
+    let _flow = flow;
+    is_apart(reached, count, function)
+}
+
 #[tactic(auto, using(crate::proofs::Candidates::none_entered, crate::proofs::Candidates::one_entered, crate::proofs::Candidates::none_next))]
-pub(crate) fn is_apart(reached: &Live, count: u32, function: u32) -> bool
+fn is_apart(reached: &Live, count: u32, function: u32) -> bool
     ensures alone { result ≡ true → lives reached.now function function ≡ false }
     ensures apart { result ≡ true → Entered reached.now count function → ⊥ }
     ensures either { result ≡ false → lives reached.now function function ≡ false → Entered reached.now count function }

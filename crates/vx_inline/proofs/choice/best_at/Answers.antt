@@ -1,4 +1,3 @@
-use Rattle.std.proofs.Common.{◌∙◌, sym}
 use Rattle.vx_inline.specs.Finding.{seen}
 use Rattle.vx_inline.proofs.Candidates.{candidate_with, none_with}
 use Rattle.vx_inline.proofs.Firsts.{best_stays, best_taken}
@@ -10,8 +9,7 @@ returns-then-branch c =
     let counts = c.args.asked.now.counts.now in
     let most = c.args.asked.now.most in
     let site = c.args.site in
-    let candidate = candidate_with flow counts most c.args.best site (seen c.in-Some.found) c.args.caller.now c.args.live.now c.requires.caller c.requires.live c.requires.apart c.in-Some.ensures
-    (sym c.in_ok-has_values-in-Some.ensures ∙ c.if-branch.true) in
+    let candidate = candidate_with flow counts most c.args.best site (seen c.in-Some.found) _ c.requires.apart c.in-Some.ensures c.in_ok-has_room-in-Some.ensures c.if-branch.true in
     best_taken flow counts most site.function site.block c.args.best candidate c.in-Some.ensures.exceeds c.requires.best
 
 pub returns-else-branch : goal.returns-else-branch
@@ -20,6 +18,5 @@ returns-else-branch c =
     let counts = c.args.asked.now.counts.now in
     let most = c.args.asked.now.most in
     let site = c.args.site in
-    let none = none_with flow counts most c.args.best site (seen c.in-Some.found) c.args.caller.now c.args.live.now c.requires.caller c.requires.live c.requires.apart c.in-Some.ensures
-    (sym c.in_ok-has_values-in-Some.ensures ∙ c.if-branch.false) in
+    let none = none_with flow counts most c.args.best site (seen c.in-Some.found) _ c.requires.apart c.in-Some.ensures c.in_ok-has_room-in-Some.ensures c.if-branch.false in
     best_stays flow counts most site.function site.block c.args.best none c.requires.best

@@ -1,14 +1,29 @@
-use Rattle.std.proofs.Common.{subst}
-use Rattle.vx_inline.specs.Choosing.{Chosen, IsChosen}
-use Rattle.vx_inline.proofs.Stepping.{chosen_permitted, kept_next}
+use Rattle.std.proofs.Common.{None, subst, sym}
+use Rattle.vx_flow.specs.declared.graph.Flow.{Flow}
+use Rattle.vx_inline.specs.declared.site.Site.{Site}
+use Rattle.vx_inline.specs.Repeating.{InlinesAll}
+use Rattle.vx_inline.specs.Choosing.{Chosen, IsCandidate, IsChosen}
+use Rattle.vx_inline.proofs.FlowSound.{inlined_sound}
+use Rattle.vx_inline.proofs.Stepping.{chosen_permitted, kept_last, kept_next}
 use Rattle.vx_inline.proofs.inlined_flow.inlined_all.Goals as goal
 
-pub inline_one-requires-clause-permitted : goal.inline_one-requires-clause-permitted
-inline_one-requires-clause-permitted c =
-    let first : IsChosen c.sites.now c.args.counts.now c.args.most c.in-Some.site = subst (Chosen c.sites.now c.args.counts.now c.args.most) c.in-Some.is c.in_ok-site.ensures.chosen in
-    chosen_permitted c.sites.now c.args.counts.now c.args.most c.in-Some.site first
+pub next_state-requires-clause-permitted : goal.next_state-requires-clause-permitted
+next_state-requires-clause-permitted c =
+    let first : IsChosen c.sites.now.flow c.args.counts.now c.args.most c.in-Some.site = subst (Chosen c.sites.now.flow c.args.counts.now c.args.most) c.in-Some.is c.in_ok-site.ensures.chosen in
+    chosen_permitted c.sites.now.flow c.args.counts.now c.args.most c.in-Some.site first
 
 pub sites-preserved : goal.sites-preserved
 sites-preserved c =
-    let first : IsChosen c.sites.now c.args.counts.now c.args.most c.in-Some.site = subst (Chosen c.sites.now c.args.counts.now c.args.most) c.in-Some.is c.in_ok-site.ensures.chosen in
-    kept_next c.args.counts.now c.args.most c.args.flow c.sites.now c.in_ok-now-in-Some.now c.in-Some.site c.sites.invariant first c.in_ok-now-in-Some.ensures.inlined c.in_ok-now-in-Some.ensures.sound
+    let first : IsChosen c.sites.now.flow c.args.counts.now c.args.most c.in-Some.site = subst (Chosen c.sites.now.flow c.args.counts.now c.args.most) c.in-Some.is c.in_ok-site.ensures.chosen in
+    let sound = inlined_sound c.sites.now.flow c.in_ok-now-in-Some.now.flow c.in-Some.site c.sites.invariant.0.sound c.in_ok-now-in-Some.ensures.inlined in
+    (kept_next c.args.counts.now c.args.most c.args.flow c.sites.now.flow c.in_ok-now-in-Some.now.flow c.in-Some.site c.sites.invariant.0 first c.in_ok-now-in-Some.ensures.inlined sound, c.in_ok-now-in-Some.ensures.known)
+
+pub returns-in-None-clause-all : goal.returns-in-None-clause-all
+returns-in-None-clause-all c =
+    let none : Chosen c.sites.now.flow c.args.counts.now c.args.most None = subst (Chosen c.sites.now.flow c.args.counts.now c.args.most) c.in-None.is c.in_ok-site.ensures.chosen in
+    subst (InlinesAll c.args.counts.now c.args.most c.args.flow) (sym c.flow_of.ensures) (kept_last c.args.counts.now c.args.most c.args.flow c.sites.now.flow c.sites.invariant.0 none)
+
+pub returns-in-None-clause-none : goal.returns-in-None-clause-none
+returns-in-None-clause-none c =
+    let none : Chosen c.sites.now.flow c.args.counts.now c.args.most None = subst (Chosen c.sites.now.flow c.args.counts.now c.args.most) c.in-None.is c.in_ok-site.ensures.chosen in
+    subst (λ (flow : Flow). (site : Site) → IsCandidate flow c.args.most site → ⊥) (sym c.flow_of.ensures) none
