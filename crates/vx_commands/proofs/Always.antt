@@ -1,5 +1,7 @@
--- Over no files the one status is that of the missing file, and over files with all names it is another.
-use Rattle.std.proofs.Common.{◌≡◌, ◌≢◌, ◌⊎◌, inl, inr, ℕ, List, [], Option, Some, None, Err, Result, Ok, ℤ, refl, sym, ◌∙◌, ap, subst, ⊎_elim}
+-- Over no files the one status is that of the missing file, and over files with all names it is another. Of `soak` the one status
+-- without boxes is that of the missing box, and with the box it is another.
+use Rattle.std.proofs.Common.{◌≡◌, ◌≢◌, ◌⊎◌, inl, inr, ℕ, List, [], ◌∷◌, Option, Some, None, Err, Result, Ok, ℤ, refl, sym, ◌∙◌, ap, subst, ⊎_elim}
+use Rattle.std.specs.Prelude.{codes}
 use Rattle.std.proofs.lemmas.Bool.{cases_eq}
 use Rattle.vx_io.specs.Outside.{Files}
 use Rattle.vx_io.specs.declared.role.Role.{Role}
@@ -15,8 +17,9 @@ use Rattle.vx_reader.specs.Text.{Fault as WordFault, reading}
 use Rattle.vx_status.specs.declared.status.Status.{Status}
 use Rattle.vx_status.specs.declared.status.Status.TheVariants.{Done, Trapped, Usage, Source, Limit, Words, Profile, Machine, NoFile, ReadFault, WriteFault, Stopped, Input, Stuck, NoMemory, NotStrict}
 use Rattle.vx_status.specs.Status.{number_of}
-use Rattle.vx_command.specs.Command.{Compilation, Execution, Profiling, Command, Compile, Simulate, Execute, Count, Soak, Check}
+use Rattle.vx_command.specs.Command.{Compilation, Execution, Profiling, Soaking, Command, Compile, Simulate, Execute, Count, Soak, Check}
 use Rattle.vx_files.specs.InputText.{input_reading}
+use Rattle.vx_probe.specs.Times.{always}
 use Rattle.vx_runs.specs.Boxes.{Boxes, Chosen, chosen}
 use Rattle.vx_files.specs.Held.{MachineFound, Is, Refused, TooLong, Missing, found_by, machine_found, input_as, input_found, RefusesProfile, status_of_profile}
 use Rattle.vx_files.specs.Effects.{Effect, ReadsRose, SourceAnswers, ProfileAnswers, MachineAnswers, InputAnswers}
@@ -25,7 +28,8 @@ use Rattle.vx_runs.specs.Simulated.{Streams, BoxAnswers, Due, and_then, words_as
 use Rattle.vx_commands.specs.Executed.{ExecEnds, ExecutionCompletes, ExecutionAnswers}
 use Rattle.vx_runs.specs.Counted.{CountsAnswers, CountsEnd}
 use Rattle.vx_runs.specs.Checking.{CheckDue}
-use Rattle.vx_commands.specs.Always.{MayAnswer, CanRead, NoStatusIsAlways}
+use Rattle.vx_commands.specs.Soaked.{SoakedAnswers}
+use Rattle.vx_commands.specs.Always.{MayAnswer, CanRead, NoStatusIsAlways, NoStatusOfSoakIsAlways}
 use Rattle.vx_runs.proofs.Told.{told, told_or, not_missing}
 
 -- no file, and an empty one under each name
@@ -199,3 +203,42 @@ no_status_is_always command boxes number can wanted =
     over_all : (status : Status) → number_of status ≡ 8 → MayAnswer command boxes all_empty status → IsMissing status → ⊥
     over_all status is m (missing_file role e) = there command boxes role can (subst (MayAnswer command boxes all_empty) e m)
     over_all status is m (of_another n) = n is
+
+-- `soak`: no box, and one that is called `late`
+
+abbrev no_boxes : Boxes
+no_boxes = record { probes = []; timings = [] }
+
+abbrev late : Chosen
+late = record { times = always 0; watches = [] }
+
+abbrev late_box : Boxes
+late_box = record { probes = []; timings = record { name = codes "late"; times = late.times } ∷ [] }
+
+is_late : chosen (codes "late") None late_box ≡ Some late
+is_late = refl
+
+not_usage : (asked : Soaking) (s : Streams) (status : Status) → number_of status ≡ 2 → SoakedAnswers asked s status late → ⊥
+not_usage asked s Usage is a = a
+not_usage asked s Done is a = absurd (cc)
+not_usage asked s (Trapped trap) is a = absurd (cc)
+not_usage asked s (Source code line column) is a = a
+not_usage asked s (Limit number count) is a = a
+not_usage asked s (Words code line) is a = a
+not_usage asked s (Profile code line) is a = a
+not_usage asked s (Machine code field) is a = a
+not_usage asked s (NoFile role) is a = a
+not_usage asked s (ReadFault role) is a = a
+not_usage asked s WriteFault is a = absurd (cc)
+not_usage asked s Stopped is a = absurd (cc)
+not_usage asked s (Input place) is a = a
+not_usage asked s (Stuck reason place) is a = a
+not_usage asked s NoMemory is a = absurd (cc)
+not_usage asked s (NotStrict breach place) is a = a
+
+pub no_status_of_soak_is_always : NoStatusOfSoakIsAlways
+no_status_of_soak_is_always asked number wanted =
+    ⊎_elim
+    (λ e. (late_box, λ held status is m. not_usage asked m.streams status (is ∙ e) (of_chosen (SoakedAnswers asked m.streams status) (chosen (codes "late") None late_box) late status is_late m.answers.1)))
+    (λ n. (no_boxes, λ held status is m. ⊎_elim (λ s. n (sym is ∙ ap number_of s)) (λ s. wanted (sym is ∙ ap number_of s)) m.answers.1))
+    (cases_eq number 2)

@@ -1,11 +1,11 @@
 -- No status is always an answer: for each command that reads a file, and each number of a status but that of want of memory, there
--- are files over which the command may not be answered by a status of that number.
+-- are files over which the command may not be answered by a status of that number; and for `soak`, which reads none, there are boxes.
 use Rattle.std.specs.Prelude.{◌≡◌, ◌≢◌, ℕ, Some}
 use Rattle.vx_io.specs.Outside.{Files}
 use Rattle.vx_status.specs.declared.status.Status.{Status}
 use Rattle.vx_status.specs.declared.status.Status.TheVariants.{NoMemory}
 use Rattle.vx_status.specs.Status.{number_of}
-use Rattle.vx_command.specs.Command.{Command, Compile, Simulate, Execute, Count, Soak, Check}
+use Rattle.vx_command.specs.Command.{Command, Soaking, Compile, Simulate, Execute, Count, Soak, Check}
 use Rattle.vx_runs.specs.Boxes.{Boxes, Chosen, chosen}
 use Rattle.vx_files.specs.Effects.{Effect, ReadsRose, ReplacesRose}
 use Rattle.vx_runs.specs.Simulated.{Streams, OutRose, ErrRose}
@@ -37,3 +37,10 @@ abbrev pub NoStatusIsAlways : Type 0
 NoStatusIsAlways =
     (command : Command) (boxes : Boxes) (number : ℕ) → CanRead command boxes → number ≢ number_of NoMemory →
     (held : Files) × ((status : Status) → number_of status ≡ number → MayAnswer command boxes held status → ⊥)
+
+-- `soak` reads no file, but it asks for a timing that is called `late`: for each number there are boxes among which it has that one, or
+-- has not, so that the command may not be answered by a status of that number
+abbrev pub NoStatusOfSoakIsAlways : Type 0
+NoStatusOfSoakIsAlways =
+    (asked : Soaking) (number : ℕ) → number ≢ number_of NoMemory →
+    (boxes : Boxes) × ((held : Files) (status : Status) → number_of status ≡ number → MayAnswer (Soak asked) boxes held status → ⊥)

@@ -1,6 +1,6 @@
 // Laws of the answers: the functions do nothing, and their clauses are the laws.
 
-ghost use Rattle.vx_commands.specs.Always.{NoStatusIsAlways};
+ghost use Rattle.vx_commands.specs.Always.{NoStatusIsAlways, NoStatusOfSoakIsAlways};
 ghost use Rattle.vx_commands.specs.Passing.{CompiledPasses};
 
 /// For each command that reads a file, and each number of a status but that of want of memory, there are files over which the command
@@ -8,6 +8,12 @@ ghost use Rattle.vx_commands.specs.Passing.{CompiledPasses};
 #[tactic(auto, using(crate::proofs::Always::no_status_is_always))]
 pub fn no_status_is_always()
     ensures { NoStatusIsAlways }
+{}
+
+/// Nor is one of `soak`, which reads no file: without boxes it asks in vain for its timing, and with that one it does not.
+#[tactic(auto, using(crate::proofs::Always::no_status_of_soak_is_always))]
+pub fn no_status_of_soak_is_always()
+    ensures { NoStatusOfSoakIsAlways }
 {}
 
 /// Words that `compile` gives for a machine pass the check for it: `check` answers that they are strict, or that memory is wanted.

@@ -88,9 +88,11 @@ type AtJoin = (u32, &'static [u32]);
 /// The joins of a trace of texts, its words, and what its joins owe.
 type JoinRow = (&'static [u32], &'static [u32], &'static [AtJoin]);
 
-const JOINS: [JoinRow; 3] = [
+const JOINS: [JoinRow; 4] = [
     // an `if` without `else`: the product below the join is placed early and is copied
     (&[4], &[0, 0, 2, 3, 1, 4], &[(4, &[4])]),
+    // where the trace ends with the product, the join is entered behind its last word
+    (&[4], &[0, 0, 2, 3, 1], &[(4, &[4])]),
     // the third operation sinks to word 4, so the join is entered behind it
     (&[5], &[0, 1, 4, 2, 3, 5, 6], &[(5, &[])]),
     // a join at the start of the trace is entered at word 0, and what is in the rejoin word is not copied

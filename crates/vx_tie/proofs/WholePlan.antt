@@ -16,7 +16,7 @@ use Rattle.vx_target.specs.Target.{Target}
 use Rattle.vx_target.specs.Carried.{Carries}
 use Rattle.vx_target.specs.Finish.{Finishes}
 use Rattle.vx_target.specs.Places.{plan_place}
-use Rattle.vx_tie.specs.Plans.{IsOther, loads_slot, stores_slot, picks_number, tests_number, moves, tests_depth, leaves_by_depth, moves_stacks, calls, takes_link, stores_link, sets_stacks, loads_link, moves_and_loads_link, gives_link, returns, moves_and_returns, traps, halts, idles, goes, branches, IsPlanPlace, IsIdle, cycles_at, cycles_from, CarriesPlan, AreSpaced, PlanLaw}
+use Rattle.vx_tie.specs.Plans.{IsOther, loads_slot, stores_slot, picks_number, tests_number, moves, tests_depth, leaves_by_depth, moves_stacks, calls, takes_link, stores_link, loads_link, moves_and_loads_link, gives_link, returns, moves_and_returns, sets_stacks, calls_first, halts, traps, traps_depth, idles, goes, branches, goes_out, IsPlanPlace, IsIdle, cycles_at, cycles_from, CarriesPlan, AreSpaced, PlanLaw}
 use Rattle.vx_tie.proofs.EachWord.{IsPlanWord, word_kind, plan_stands}
 use Rattle.vx_tie.proofs.IdleWords.{Operates, Busy, busy_beside}
 
@@ -24,31 +24,34 @@ no_op : (ops : List Operation) → Operates ops → ops ≡ [] → ⊥
 no_op [] h e = h
 no_op (op ∷ ops) h e = absurd (cc)
 
-module _ (T : Target) (count : ℕ) where
+module _ (T : Target) (count q : ℕ) where
   -- one that has no operation is a pause, or moves the stack pointers of no clusters
-  short : (word : Word) → IsOther T count word → word.ops ≡ [] → cycles_of word ≤ 16
+  short : (word : Word) → IsOther T count q word → word.ops ≡ [] → cycles_of word ≤ 16
   short word (loads_slot f v up to lt n h) e = absurd (cc)
   short word (stores_slot f v k from lt n) e = absurd (cc)
-  short word (picks_number b) e = absurd (cc)
-  short word (tests_number b) e = absurd (cc)
+  short word (picks_number f v b lt n h i) e = absurd (cc)
+  short word (tests_number f v b lt n h i) e = absurd (cc)
   short word (moves k to from) e = absurd (cc)
-  short word tests_depth e = absurd (cc)
-  short word leaves_by_depth e = absurd (cc)
-  short word (moves_stacks z h) e = omega arith
-  short word (calls f lt) e = absurd (cc)
-  short word takes_link e = absurd (cc)
-  short word stores_link e = absurd (cc)
-  short word sets_stacks e = omega arith
-  short word loads_link e = absurd (cc)
-  short word (moves_and_loads_link from) e = absurd (cc)
-  short word gives_link e = absurd (cc)
-  short word returns e = absurd (cc)
-  short word (moves_and_returns from) e = absurd (cc)
-  short word (traps k) e = absurd (cc)
-  short word halts e = absurd (cc)
+  short word (tests_depth h) e = absurd (cc)
+  short word (leaves_by_depth h) e = absurd (cc)
+  short word (moves_stacks z h i) e = omega arith
+  short word (calls h) e = absurd (cc)
+  short word (takes_link h) e = absurd (cc)
+  short word (stores_link h) e = absurd (cc)
+  short word (loads_link h) e = absurd (cc)
+  short word (moves_and_loads_link from h) e = absurd (cc)
+  short word (gives_link h) e = absurd (cc)
+  short word (returns h) e = absurd (cc)
+  short word (moves_and_returns from h) e = absurd (cc)
+  short word (sets_stacks h) e = omega arith
+  short word (calls_first f lt h) e = absurd (cc)
+  short word (halts h) e = absurd (cc)
+  short word (traps f p k lt h i) e = absurd (cc)
+  short word (traps_depth h) e = absurd (cc)
   short word (idles n le) e = omega arith
-  short word (goes f q lt t) e = absurd (cc)
-  short word (branches f q b lt t) e = absurd (cc)
+  short word (goes f p lt t) e = absurd (cc)
+  short word (branches f p b lt t) e = absurd (cc)
+  short word (goes_out f p lt t) e = absurd (cc)
 
 module _ (m : Numbers) (flow : Flow) (ls : List VWords) (maps : List RegMap) (x : Finished) (finishes : Finishes m flow ls maps x) (sound : SoundFlow flow) (spaced : AreSpaced ls) where
   abbrev T : Target
@@ -68,8 +71,8 @@ module _ (m : Numbers) (flow : Flow) (ls : List VWords) (maps : List RegMap) (x 
       let lt : h.function < length ls = subst (λ n. h.function < n) (sym finishes.functions) h.low in
       record { function = h.function; place = h.place; region = h.region; number = h.number; items = h.items; below = lt; planned = h.planned; at = finishes.places.each h.function h.place h.region h.number h.items lt h.planned ∙ ap Some h.at }
 
-  others : (q : ℕ) (word : Word) → WordAt x.program q word → Place q ⊎ IsOther T (length ls) word
-  others q word at = ⊎_elim (λ here. inl (named q here)) (λ other. inr (subst (λ n. IsOther T n word) (sym finishes.functions) other)) (word_kind T flow ls x.program sound c q word at)
+  others : (q : ℕ) (word : Word) → WordAt x.program q word → Place q ⊎ IsOther T (length ls) q word
+  others q word at = ⊎_elim (λ here. inl (named q here)) (λ other. inr (subst (λ n. IsOther T n q word) (sym finishes.functions) other)) (word_kind T flow ls x.program sound c spaced q word at)
 
   abbrev Idle : ℕ → Type 0
   Idle q = IsIdle T ls x.places x.program q
@@ -78,7 +81,7 @@ module _ (m : Numbers) (flow : Flow) (ls : List VWords) (maps : List RegMap) (x 
   not_busy q i h = ⊎_elim (λ p. i.other (named q p)) (λ o. no_op i.word.ops o i.empty) h
 
   one_idle : (q : ℕ) → Idle q → cycles_at (slice_get x.program.words q) ≤ 16
-  one_idle q i = subst (λ o. cycles_at o ≤ 16) (sym i.at) (⊎_elim (λ p. absurd (i.other p)) (λ o. short T (length ls) i.word o i.empty) (others q i.word i.at))
+  one_idle q i = subst (λ o. cycles_at o ≤ 16) (sym i.at) (⊎_elim (λ p. absurd (i.other p)) (λ o. short T (length ls) q i.word o i.empty) (others q i.word i.at))
 
   idle : (q n : ℕ) → ((i : ℕ) → i < n → Idle (q + i)) → cycles_from x.program.words q n ≤ 16
   idle q zero h = omega arith
@@ -95,7 +98,7 @@ module _ (m : Numbers) (flow : Flow) (ls : List VWords) (maps : List RegMap) (x 
 
   carries_plan : CarriesPlan T ls x.places x.program
   carries_plan = record {
-    planned = λ f p r i items lt e. (plan_place T f p items, finishes.places.each f p r i items lt e, plan_stands T flow ls x.program sound c f p r i items (below f lt) e);
+    planned = λ f p r i items lt e. (plan_place T f p items, finishes.places.each f p r i items lt e, plan_stands T flow ls x.program sound c spaced f p r i items (below f lt) e);
     others = others;
     idle = idle;
   }

@@ -162,10 +162,10 @@ module _ (T : Target) (heat : ℕ → Register → ℕ) (f : ℕ) (mapped : IsMa
   busy : (v : ℕ) → IsIn v Rs ⊎ IsIn v Ws → Busy T f mapped sound p v
   busy v i = is_named at (⊎_elim (in_left v Rs Ws) (in_right v Rs Ws) i)
 
-  few_r : Few T f mapped Rs
+  pub few_r : Few T f mapped Rs
   few_r = few_reads T f mapped sound IsArray p items plans proper banks
 
-  few_w : Few T f mapped Ws
+  pub few_w : Few T f mapped Ws
   few_w = few_writes T f mapped sound IsArray p items plans proper banks
 
   read_settles : (v : ℕ) → IsIn v Rs → Settles T heat f mapped sound p v

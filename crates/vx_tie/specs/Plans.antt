@@ -4,6 +4,8 @@ use Rattle.std.specs.Prelude.{◌≡◌, ◌⊎◌, ◌<◌, ◌≤◌, ◌+◌,
 use Rattle.vx_base.specs.declared.arithmetic.Code.TheVariants.{Add, ToBranch}
 use Rattle.vx_base.specs.declared.arithmetic.Compare.TheVariants.{Ltu, Ne}
 use Rattle.vx_base.specs.declared.outcome.Trap.{Trap}
+use Rattle.vx_base.specs.declared.outcome.Trap.TheVariants.{Depth as ByDepth}
+use Rattle.vx_flow.specs.declared.graph.Bank.TheVariants.{Branch}
 use Rattle.vx_flow.specs.declared.graph.Flow.{Flow}
 use Rattle.vx_flow.specs.declared.graph.Operand.{Operand}
 use Rattle.vx_flow.specs.Effects.{IsIn}
@@ -21,57 +23,133 @@ use Rattle.vx_isa.specs.Paths.{WordAt}
 use Rattle.vx_mixed.specs.declared.layout.Laid.{Laid}
 use Rattle.vx_mixed.specs.declared.layout.Laid.TheVariants.{Split}
 use Rattle.vx_mixed.specs.declared.layout.VirtualWord.{VirtualWord}
-use Rattle.vx_mixed.specs.declared.layout.VirtualWord.TheVariants.{Planned, Drain, Transfer, Choice, Call as Calls}
+use Rattle.vx_mixed.specs.declared.layout.VirtualWord.TheVariants.{Planned, Drain, Transfer, Choice, Call as Calls, Return as Returns, Ends}
 use Rattle.vx_mixed.specs.declared.layout.VWords.{VWords}
 use Rattle.vx_mixed.specs.declared.mixed.MixedGraph.{MixedGraph}
-use Rattle.vx_mixed.specs.Layout.{layout_of}
+use Rattle.vx_mixed.specs.declared.region.Node.TheVariants.{Enters}
+use Rattle.vx_mixed.specs.LaidSettled.{laid_writes}
+use Rattle.vx_mixed.specs.Layout.{layout_of, region_place, IsDone}
+use Rattle.vx_mixed.specs.Valid.{Valid}
+use Rattle.vx_regs.specs.declared.map.Kept.TheVariants.{InRegister}
 use Rattle.vx_regs.specs.declared.map.RegMap.{RegMap}
+use Rattle.vx_regs.specs.Mapped.{first_of}
 use Rattle.vx_target.specs.declared.finished.Finished.{Finished}
 use Rattle.vx_target.specs.declared.finished.TracePlaces.{TracePlaces}
-use Rattle.vx_target.specs.Target.{Target, answer, bytes, first_frame, general, is_drain, on_clusters, one, plan_word, stack_on, waits}
-use Rattle.vx_target.specs.Carried.{NeedsSlot}
+use Rattle.vx_target.specs.Target.{Target, answer, bytes, first_frame, general, holds_branch, is_drain, is_slotted, kept, on_clusters, one, plan_word, slotted, stack_on, waits}
+use Rattle.vx_target.specs.Carried.{CallsAt, NeedsSlot}
 use Rattle.vx_target.specs.Places.{places_in}
 use Rattle.vx_target.specs.Finish.{Finishes}
 
--- a place of the layout of a function to which one of its words turns, or at which the layout is entered
-pub data IsTurnedTo (T : Target) (f q : ℕ) : Type 0 where
-  at_entry : q ≡ (T.layout f).entry → IsTurnedTo T f q
-  by_transfer : (p : ℕ) → slice_get (T.layout f).words p ≡ Some (Transfer q) → IsTurnedTo T f q
-  by_choice : (p test : ℕ) → slice_get (T.layout f).words p ≡ Some (Choice test q) → IsTurnedTo T f q
-  by_split : (p r i test : ℕ) (y : Bool) (items : List Laid) → slice_get (T.layout f).words p ≡ Some (Planned r i items) → IsIn (Split test y q) items → IsTurnedTo T f q
+-- places
 
--- a word of no plan, in a program of so many functions, where link and answer have registers of their own
-pub data IsOther (T : Target) (functions : ℕ) : Word → Type 0 where
+-- an entrance of a layout: where it is entered, or a place to which one of its words goes on
+pub data IsEntrance (l : VWords) (q : ℕ) : Type 0 where
+  at_entry : q ≡ l.entry → IsEntrance l q
+  by_transfer : (p : ℕ) → slice_get l.words p ≡ Some (Transfer q) → IsEntrance l q
+  by_choice : (p test : ℕ) → slice_get l.words p ≡ Some (Choice test q) → IsEntrance l q
+
+-- where a block of a graph of regions is entered: the start of a region, or a word of one to which an edge leads
+pub record IsEntered (m : MixedGraph) (q : ℕ) : Type 0 where
+  pub block : ℕ
+  pub region : ℕ
+  pub word : ℕ
+  pub enters : slice_get m.nodes block ≡ Some (Enters region word)
+  pub is : q ≡ region_place m.regions region + word
+
+-- The entrances of the layout of a graph of which no block is left are where its blocks are entered.
+abbrev pub EntranceLaw : Type 0
+EntranceLaw = (m : MixedGraph) → Valid m → IsDone m → 0 < length m.nodes → (q : ℕ) → IsEntrance (layout_of m) q → IsEntered m q
+
+-- the empty cycles of the way out of a split, where its word has a result that is stored in a slot first
+pub record IsWayOut (T : Target) (f q : ℕ) : Type 0 where
+  pub place : ℕ
+  pub region : ℕ
+  pub number : ℕ
+  pub items : List Laid
+  pub planned : slice_get (T.layout f).words place ≡ Some (Planned region number items)
+  pub test : ℕ
+  pub leaves_when : Bool
+  pub leads : IsIn (Split test leaves_when q) items
+  pub result : ℕ
+  pub stored : IsIn result (slotted T f (laid_writes items))
+  pub cycles : ℕ
+  pub empty : slice_get (T.layout f).words q ≡ Some (Drain cycles)
+
+-- among the first words of the program, in front of all functions
+abbrev pub IsInStart : Target → (place : ℕ) → Type 0
+IsInStart T place = place < T.entry 0
+
+-- among the words by which a function is entered, in front of its layout
+pub record IsInEntry (T : Target) (functions place : ℕ) : Type 0 where
+  pub function : ℕ
+  pub low : function < functions
+  pub from : T.entry function ≤ place
+  pub to : place < T.starts function 0
+
+-- among the words of a call
+pub record IsInCall (T : Target) (functions place : ℕ) : Type 0 where
+  pub function : ℕ
+  pub at : ℕ
+  pub called : ℕ
+  pub arguments : List Operand
+  pub result : Option ℕ
+  pub low : function < functions
+  pub calls : CallsAt T function at called arguments result
+  pub from : T.starts function at ≤ place
+  pub to : place < T.starts function (suc at)
+
+-- among the words of a return
+pub record IsInReturn (T : Target) (functions place : ℕ) : Type 0 where
+  pub function : ℕ
+  pub at : ℕ
+  pub value : Operand
+  pub low : function < functions
+  pub returns : slice_get (T.layout function).words at ≡ Some (Returns value)
+  pub from : T.starts function at ≤ place
+  pub to : place < T.starts function (suc at)
+
+-- b is the register of branch value v, or a scratch one where v is in a slot
+abbrev pub IsBranchOf : Target → (f v b : ℕ) → Type 0
+IsBranchOf T f v b = (kept T f v ≡ InRegister b) ⊎ ((is_slotted (kept T f v) ≡ true) × (b < first_of T.machine Branch))
+
+-- The word at a place, where it is none of the plan, in a program of so many functions; link and answer have registers of their own.
+-- A slot is that of a parameter, of a value that no register is left for, or of one that is saved round a call. Two words of a return do
+-- two of its steps at once.
+pub data IsOther (T : Target) (functions place : ℕ) : Word → Type 0 where
   -- the slot of a value that needs one, in the frame or, while a call is made, in the caller's, which begins a frame above
-  loads_slot : (f v up : ℕ) (to : GeneralRegister) → f < functions → NeedsSlot T f v → (up ≡ 0) ⊎ (up ≡ T.frame) → IsOther T functions (one (Load to.cluster to (bytes (up + T.slot f v)) (stack_on to.cluster) false))
-  stores_slot : (f v k : ℕ) (from : Source) → f < functions → NeedsSlot T f v → IsOther T functions (one (Store k (bytes (T.slot f v)) (stack_on k) from))
+  loads_slot : (f v up : ℕ) (to : GeneralRegister) → f < functions → NeedsSlot T f v → (up ≡ 0) ⊎ ((up ≡ T.frame) × IsInCall T functions place) → IsOther T functions place (one (Load to.cluster to (bytes (up + T.slot f v)) (stack_on to.cluster) false))
+  stores_slot : (f v k : ℕ) (from : Source) → f < functions → NeedsSlot T f v → IsOther T functions place (one (Store k (bytes (T.slot f v)) (stack_on k) from))
   -- a branch value to its slot, and from it, by way of the answer's register
-  picks_number : (b : ℕ) → IsOther T functions (one (Select 0 answer (record { cluster = 0; number = b }) (Number (pos 1)) (Number (pos 0))))
-  tests_number : (b : ℕ) → IsOther T functions (one (Compute 0 (ToBranch Ne) (InBranch (record { cluster = 0; number = b })) (Held answer) (Number (pos 0))))
-  moves : (k : ℕ) (to : GeneralRegister) (from : Source) → IsOther T functions (one (Move k to from))
+  picks_number : (f v b : ℕ) → f < functions → NeedsSlot T f v → holds_branch T f v ≡ true → IsBranchOf T f v b → IsOther T functions place (one (Select 0 answer (record { cluster = 0; number = b }) (Number (pos 1)) (Number (pos 0))))
+  tests_number : (f v b : ℕ) → f < functions → NeedsSlot T f v → holds_branch T f v ≡ true → IsBranchOf T f v b → IsOther T functions place (one (Compute 0 (ToBranch Ne) (InBranch (record { cluster = 0; number = b })) (Held answer) (Number (pos 0))))
+  moves : (k : ℕ) (to : GeneralRegister) (from : Source) → IsOther T functions place (one (Move k to from))
   -- calls: the depth is tested, and the stack pointers of all clusters go a frame down, and behind the call up again
-  tests_depth : IsOther T functions (one (Compute 0 (ToBranch Ltu) (InBranch (record { cluster = 0; number = 0 })) (Held (stack_on 0)) (Number (bytes (T.globals + T.frame)))))
-  leaves_by_depth : IsOther T functions (one (BranchOn 0 true T.depth_trap))
-  moves_stacks : (z : ℤ) → (z ≡ bytes T.frame) ⊎ (z ≡ neg_ℤ (bytes T.frame)) → IsOther T functions (record { ops = on_clusters T.machine.clusters (λ k. Compute k Add (InGeneral (stack_on k)) (Held (stack_on k)) (Number z)); idle = 0 })
-  calls : (f : ℕ) → f < functions → IsOther T functions (one (Call (T.entry f)))
-  -- entries: the link goes to the frame; at the start of the program the stack pointers are set
-  takes_link : IsOther T functions (one (FromLink (general 0 3)))
-  stores_link : IsOther T functions (one (Store 0 (pos 0) (stack_on 0) (Held (general 0 3))))
-  sets_stacks : IsOther T functions (record { ops = on_clusters T.machine.clusters (λ k. Move k (stack_on k) (Number (bytes (first_frame T)))); idle = 0 })
+  tests_depth : IsInCall T functions place → IsOther T functions place (one (Compute 0 (ToBranch Ltu) (InBranch (record { cluster = 0; number = 0 })) (Held (stack_on 0)) (Number (bytes (T.globals + T.frame)))))
+  leaves_by_depth : IsInCall T functions place → IsOther T functions place (one (BranchOn 0 true T.depth_trap))
+  moves_stacks : (z : ℤ) → (z ≡ bytes T.frame) ⊎ (z ≡ neg_ℤ (bytes T.frame)) → IsInCall T functions place → IsOther T functions place (record { ops = on_clusters T.machine.clusters (λ k. Compute k Add (InGeneral (stack_on k)) (Held (stack_on k)) (Number z)); idle = 0 })
+  calls : (here : IsInCall T functions place) → IsOther T functions place (one (Call (T.entry here.called)))
+  -- entries: the link goes to the frame
+  takes_link : IsInEntry T functions place → IsOther T functions place (one (FromLink (general 0 3)))
+  stores_link : IsInEntry T functions place → IsOther T functions place (one (Store 0 (pos 0) (stack_on 0) (Held (general 0 3))))
   -- returns: the link comes back, perhaps in the word that moves the answer; or the answer is moved in the word that returns
-  loads_link : IsOther T functions (one (Load 0 (general 0 3) (pos 0) (stack_on 0) false))
-  moves_and_loads_link : (from : Source) → IsOther T functions (record { ops = Move 0 answer from ∷ Load 0 (general 0 3) (pos 0) (stack_on 0) false ∷ []; idle = 0 })
-  gives_link : IsOther T functions (one (ToLink (Held (general 0 3))))
-  returns : IsOther T functions (one Return)
-  moves_and_returns : (from : Source) → IsOther T functions (record { ops = Move 0 answer from ∷ Return ∷ []; idle = 0 })
-  -- ends
-  traps : (k : Trap) → IsOther T functions (one (EndByTrap k))
-  halts : IsOther T functions (one (Halt (Held answer)))
+  loads_link : IsInReturn T functions place → IsOther T functions place (one (Load 0 (general 0 3) (pos 0) (stack_on 0) false))
+  moves_and_loads_link : (from : Source) → IsInReturn T functions place → IsOther T functions place (record { ops = Move 0 answer from ∷ Load 0 (general 0 3) (pos 0) (stack_on 0) false ∷ []; idle = 0 })
+  gives_link : IsInReturn T functions place → IsOther T functions place (one (ToLink (Held (general 0 3))))
+  returns : IsInReturn T functions place → IsOther T functions place (one Return)
+  moves_and_returns : (from : Source) → IsInReturn T functions place → IsOther T functions place (record { ops = Move 0 answer from ∷ Return ∷ []; idle = 0 })
+  -- the program begins: the stack pointers are set, and a function is called
+  sets_stacks : IsInStart T place → IsOther T functions place (record { ops = on_clusters T.machine.clusters (λ k. Move k (stack_on k) (Number (bytes (first_frame T)))); idle = 0 })
+  calls_first : (f : ℕ) → f < functions → IsInStart T place → IsOther T functions place (one (Call (T.entry f)))
+  -- ends: of the first function, by a trap of a layout, and by that of the depth
+  halts : IsInStart T place → IsOther T functions place (one (Halt (Held answer)))
+  traps : (f p : ℕ) (k : Trap) → f < functions → slice_get (T.layout f).words p ≡ Some (Ends k) → place ≡ T.starts f p → IsOther T functions place (one (EndByTrap k))
+  traps_depth : place ≡ T.depth_trap → IsOther T functions place (one (EndByTrap ByDepth))
   -- empty cycles
-  idles : (n : ℕ) → n ≤ 16 → IsOther T functions (waits n)
-  -- to a place of a layout
-  goes : (f q : ℕ) → f < functions → IsTurnedTo T f q → IsOther T functions (one (Goto (T.starts f q)))
-  branches : (f q b : ℕ) → f < functions → IsTurnedTo T f q → IsOther T functions (one (BranchOn b true (T.starts f q)))
+  idles : (n : ℕ) → n ≤ 16 → IsOther T functions place (waits n)
+  -- to an entrance; or, where results have been stored behind a split that was taken, on to the empty cycles of its way out
+  goes : (f q : ℕ) → f < functions → IsEntrance (T.layout f) q → IsOther T functions place (one (Goto (T.starts f q)))
+  branches : (f q b : ℕ) → f < functions → IsEntrance (T.layout f) q → IsOther T functions place (one (BranchOn b true (T.starts f q)))
+  goes_out : (f q : ℕ) → f < functions → IsWayOut T f q → IsOther T functions place (one (Goto (T.starts f q)))
 
 -- q is the place of word i of region r of function f
 abbrev pub IsPlaceIn : List TracePlaces → List VWords → (f r i q : ℕ) → Type 0
@@ -109,7 +187,7 @@ cycles_from words q (suc n) = cycles_at (slice_get words q) + cycles_from words 
 -- most 16 cycles together.
 pub record CarriesPlan (T : Target) (ls : List VWords) (places : List TracePlaces) (w : WordProgram) : Type 0 where
   pub planned : (f p r i : ℕ) (items : List Laid) → f < length ls → slice_get (T.layout f).words p ≡ Some (Planned r i items) → (q : ℕ) × IsPlaceIn places ls f r i q × WordAt w q (plan_word T f p items)
-  pub others : (q : ℕ) (word : Word) → WordAt w q word → IsPlanPlace T ls places q ⊎ IsOther T (length ls) word
+  pub others : (q : ℕ) (word : Word) → WordAt w q word → IsPlanPlace T ls places q ⊎ IsOther T (length ls) q word
   pub idle : (q n : ℕ) → ((i : ℕ) → i < n → IsIdle T ls places w (q + i)) → cycles_from w.words q n ≤ 16
 
 -- behind a word of a layout another one stands, which is none of empty cycles
@@ -118,8 +196,14 @@ pub record GoesOn (l : VWords) (p : ℕ) : Type 0 where
   pub next : slice_get l.words (suc p) ≡ Some word
   pub other : is_drain word ≡ false
 
--- a layout goes on so behind empty cycles and behind calls
+-- the way out of a split: at once to an entrance, or by empty cycles
+pub data LeavesAt (l : VWords) (q : ℕ) : Type 0 where
+  at_once : (to : ℕ) → slice_get l.words q ≡ Some (Transfer to) → LeavesAt l q
+  by_empty : (n : ℕ) → slice_get l.words q ≡ Some (Drain n) → LeavesAt l q
+
+-- a layout goes on so behind empty cycles and behind calls, and so its splits are left
 pub record IsSpaced (l : VWords) : Type 0 where
+  pub splits : (p r i test q : ℕ) (y : Bool) (items : List Laid) → slice_get l.words p ≡ Some (Planned r i items) → IsIn (Split test y q) items → LeavesAt l q
   pub drains : (p n : ℕ) → slice_get l.words p ≡ Some (Drain n) → GoesOn l p
   pub calls : (p g : ℕ) (arguments : List Operand) (result : Option ℕ) → slice_get l.words p ≡ Some (Calls g arguments result) → GoesOn l p
 

@@ -1,7 +1,7 @@
 // Laws of what words that carry layouts do: the same as the layouts, by the plan. Each is the clause of a function that does nothing.
 
 ghost use Rattle.vx_tie.specs.Moved.{StackLaw};
-ghost use Rattle.vx_tie.specs.Plans.{PlanLaw, SpacedLaw};
+ghost use Rattle.vx_tie.specs.Plans.{EntranceLaw, PlanLaw, SpacedLaw};
 ghost use Rattle.vx_tie.specs.Planned.{CallLaw, EntryLaw, PlannedLaw, SimpleLaw, StartLaw};
 ghost use Rattle.vx_tie.specs.Returned.{ReturnLaw};
 ghost use Rattle.vx_tie.specs.Whole.{WholeLaw};
@@ -56,15 +56,22 @@ pub fn programs_do_the_same()
 
 /// A program that is finished from spaced layouts carries its plan: at the place of each planned word stands a word with exactly its
 /// operations, in their order, each on its cluster, with its numbers and the registers of its values. Every other word is of one of
-/// some kinds: a load or store of the slot of a value that needs one, a move, a step of a call of a function, an entry, a return or
-/// an end, empty cycles, or a jump to where a layout turns or is entered. And other words without an operation, one behind the
-/// other, last at most 16 cycles together.
+/// some kinds: a load or store of the slot of a value that needs one, by way of a register of that value where it is a branch value, a
+/// move, a step of a call among the words of a call, one of an entry, a return or the program's start among theirs, an end where a
+/// layout ends or a call is too deep, empty cycles, or a jump to an entrance or to the empty cycles of a split's way out. And other words
+/// without an operation, one behind the other, last at most 16 cycles together.
 pub fn finished_programs_carry_their_plan()
     ensures { PlanLaw }
 {}
 
 /// Each layout of a graph of regions is spaced: behind its empty cycles and behind its calls a word stands that is none of empty
-/// cycles.
+/// cycles; and where a split leads stand empty cycles or a word that goes on at once.
 pub fn layouts_are_spaced()
     ensures { SpacedLaw }
+{}
+
+/// The entrances of such a layout, which jumps of the program lead to, are where blocks of the graph are entered: starts of regions, and
+/// words of regions to which an edge leads.
+pub fn entrances_are_where_blocks_are_entered()
+    ensures { EntranceLaw }
 {}

@@ -5,6 +5,8 @@
 
 mod begins;
 #[cfg(test)]
+mod next_index;
+#[cfg(test)]
 mod passes;
 #[cfg(test)]
 mod picks;

@@ -150,7 +150,7 @@ fn is_wanted(plan: &TracePlan, wanted: &Wanted) -> bool {
 }
 
 /// What the graph begins as, from which steps can be taken.
-fn begun_for(alloc: Global, graph: &Graph, machine: &Machine) -> Result<Mixed, NoMemory>
+pub(crate) fn begun_for(alloc: Global, graph: &Graph, machine: &Machine) -> Result<Mixed, NoMemory>
     requires sound { is_sound graph.now ≡ true }
     requires begins { CanBegin graph.now }
     ensures { IfOk result (λ mixed. IsGraphOf machine.now graph.now mixed) }
@@ -162,7 +162,7 @@ fn begun_for(alloc: Global, graph: &Graph, machine: &Machine) -> Result<Mixed, N
 }
 
 /// One step.
-fn step(
+pub(crate) fn step(
     alloc: Global,
     mixed: &mut Mixed,
     counts: &Counts,
