@@ -1,10 +1,13 @@
 -- The steps by which the words of calls are put together: an operation on one cluster more, and words behind words.
-use Rattle.std.proofs.Common.{◌≡◌, ℕ, zero, suc, ◌+◌, List, [], ◌∷◌, ◌++◌, map, drop, length, refl, ap, ◌∙◌, arith, append_assoc}
+use Rattle.std.proofs.Common.{◌≡◌, ℕ, zero, suc, ◌+◌, ◌==◌, ◌&&◌, true, false, neg_ℤ, List, [], ◌∷◌, ◌++◌, map, drop, length, refl, ap, ◌∙◌, arith, append_assoc}
 use Rattle.std.proofs.Math.Seq.{drop-append_seam}
+use Rattle.std.specs.Prelude.{if◌then◌else◌}
 use Rattle.vx_flow.specs.Walk.{numbers}
+use Rattle.vx_isa.specs.Fits.{fits}
 use Rattle.vx_isa.specs.declared.operation.Operation.{Operation}
+use Rattle.vx_isa.specs.declared.operation.Operation.TheVariants.{BranchOn}
 use Rattle.vx_isa.specs.declared.program.Word.{Word}
-use Rattle.vx_target.specs.Target.{on_clusters, pause}
+use Rattle.vx_target.specs.Target.{Target, bytes, leave_or_lower, move_stack, on_clusters, one, pause, stack_steps}
 
 -- clusters
 
@@ -30,3 +33,11 @@ waits_behind cycles n old new xs e a =
     ∙ ap (λ k. (old ++ xs) ++ pause (cycles (drop k (old ++ xs)))) e
     ∙ ap (λ z. (old ++ xs) ++ pause (cycles z)) (drop-append_seam old xs)
     ∙ append_assoc old xs (pause (cycles xs))
+
+-- a call leaves or lowers in one word, or in two
+
+pub lowers_beside : (T : Target) → ((T.machine.latency_alu == 1) && fits T.machine (BranchOn 0 true T.depth_trap ∷ stack_steps T (neg_ℤ (bytes T.frame)))) ≡ true → leave_or_lower T ≡ record { ops = BranchOn 0 true T.depth_trap ∷ stack_steps T (neg_ℤ (bytes T.frame)); idle = 0 } ∷ []
+lowers_beside T e = ap (λ b. if b then record { ops = BranchOn 0 true T.depth_trap ∷ stack_steps T (neg_ℤ (bytes T.frame)); idle = 0 } ∷ [] else one (BranchOn 0 true T.depth_trap) ∷ move_stack T (neg_ℤ (bytes T.frame))) e
+
+pub lowers_behind : (T : Target) → ((T.machine.latency_alu == 1) && fits T.machine (BranchOn 0 true T.depth_trap ∷ stack_steps T (neg_ℤ (bytes T.frame)))) ≡ false → leave_or_lower T ≡ one (BranchOn 0 true T.depth_trap) ∷ move_stack T (neg_ℤ (bytes T.frame))
+lowers_behind T e = ap (λ b. if b then record { ops = BranchOn 0 true T.depth_trap ∷ stack_steps T (neg_ℤ (bytes T.frame)); idle = 0 } ∷ [] else one (BranchOn 0 true T.depth_trap) ∷ move_stack T (neg_ℤ (bytes T.frame))) e

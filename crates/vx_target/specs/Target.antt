@@ -324,8 +324,11 @@ abbrev pub on_clusters : ℕ → (ℕ → Operation) → List Operation
 on_clusters n op = map op (clusters n)
 
 -- the stack pointer of every cluster so many bytes up or down
+abbrev pub stack_steps : Target → ℤ → List Operation
+stack_steps T z = on_clusters T.machine.clusters (λ k. Compute k Add (InGeneral (stack_on k)) (Held (stack_on k)) (Number z))
+
 abbrev pub move_stack : Target → ℤ → List Word
-move_stack T z = settled T (record { ops = on_clusters T.machine.clusters (λ k. Compute k Add (InGeneral (stack_on k)) (Held (stack_on k)) (Number z)); idle = 0 } ∷ [])
+move_stack T z = settled T (record { ops = stack_steps T z; idle = 0 } ∷ [])
 
 -- saved by their own registers
 abbrev pub save_words : Target → ℕ → List ℕ → List Word
@@ -364,12 +367,19 @@ result_words T f (Some v) =
     then one (Store 0 (bytes (T.slot f v)) (stack_on 0) (Held answer)) ∷ []
     else settled T (one (Move (home T f v) (general_of T f (v ∷ []) v) (Held answer)) ∷ [])
 
+-- a call leaves for the trap of the depth, or the stack pointers go a frame down: in one word where the machine has room for both and
+-- the stack pointers are there by the next word, since nothing reads them at the trap
+abbrev pub leave_or_lower : Target → List Word
+leave_or_lower T =
+    if (T.machine.latency_alu == 1) && fits T.machine (BranchOn 0 true T.depth_trap ∷ stack_steps T (neg_ℤ (bytes T.frame)))
+    then record { ops = BranchOn 0 true T.depth_trap ∷ stack_steps T (neg_ℤ (bytes T.frame)); idle = 0 } ∷ []
+    else one (BranchOn 0 true T.depth_trap) ∷ move_stack T (neg_ℤ (bytes T.frame))
+
 -- a frame that would begin below the end of the globals is one too many: this is tested while values are saved
 abbrev pub call_words : Target → (function place called : ℕ) → List Operand → List Word
 call_words T f p g arguments =
     settled T (one (Compute 0 (ToBranch Ltu) (InBranch (record { cluster = 0; number = 0 })) (Held (stack_on 0)) (Number (bytes (T.globals + T.frame)))) ∷ save_words T f (T.saved f p))
-    ++ one (BranchOn 0 true T.depth_trap)
-    ∷ (move_stack T (neg_ℤ (bytes T.frame)) ++ (argument_words T f g (parameters_of T g) arguments ++ one (Call (T.entry g)) ∷ []))
+    ++ (leave_or_lower T ++ (argument_words T f g (parameters_of T g) arguments ++ one (Call (T.entry g)) ∷ []))
 
 -- the word of a layout is a call
 abbrev pub is_call_word : VirtualWord → Bool

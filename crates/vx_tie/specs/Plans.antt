@@ -28,7 +28,7 @@ use Rattle.vx_mixed.specs.Layout.{layout_of}
 use Rattle.vx_regs.specs.declared.map.RegMap.{RegMap}
 use Rattle.vx_target.specs.declared.finished.Finished.{Finished}
 use Rattle.vx_target.specs.declared.finished.TracePlaces.{TracePlaces}
-use Rattle.vx_target.specs.Target.{Target, answer, bytes, first_frame, general, is_drain, on_clusters, one, plan_word, stack_on, waits}
+use Rattle.vx_target.specs.Target.{Target, answer, bytes, first_frame, general, is_drain, on_clusters, one, plan_word, stack_on, stack_steps, waits}
 use Rattle.vx_target.specs.Carried.{NeedsSlot}
 use Rattle.vx_target.specs.Places.{places_in}
 use Rattle.vx_target.specs.Finish.{Finishes}
@@ -49,9 +49,11 @@ pub data IsOther (T : Target) (functions : ℕ) : Word → Type 0 where
   picks_number : (b : ℕ) → IsOther T functions (one (Select 0 answer (record { cluster = 0; number = b }) (Number (pos 1)) (Number (pos 0))))
   tests_number : (b : ℕ) → IsOther T functions (one (Compute 0 (ToBranch Ne) (InBranch (record { cluster = 0; number = b })) (Held answer) (Number (pos 0))))
   moves : (k : ℕ) (to : GeneralRegister) (from : Source) → IsOther T functions (one (Move k to from))
-  -- calls: the depth is tested, and the stack pointers of all clusters go a frame down, and behind the call up again
+  -- calls: the depth is tested, and the stack pointers of all clusters go a frame down, perhaps in the word that leaves by the depth,
+  -- and behind the call up again
   tests_depth : IsOther T functions (one (Compute 0 (ToBranch Ltu) (InBranch (record { cluster = 0; number = 0 })) (Held (stack_on 0)) (Number (bytes (T.globals + T.frame)))))
   leaves_by_depth : IsOther T functions (one (BranchOn 0 true T.depth_trap))
+  leaves_or_lowers : IsOther T functions (record { ops = BranchOn 0 true T.depth_trap ∷ stack_steps T (neg_ℤ (bytes T.frame)); idle = 0 })
   moves_stacks : (z : ℤ) → (z ≡ bytes T.frame) ⊎ (z ≡ neg_ℤ (bytes T.frame)) → IsOther T functions (record { ops = on_clusters T.machine.clusters (λ k. Compute k Add (InGeneral (stack_on k)) (Held (stack_on k)) (Number z)); idle = 0 })
   calls : (f : ℕ) → f < functions → IsOther T functions (one (Call (T.entry f)))
   -- entries: the link goes to the frame; at the start of the program the stack pointers are set
