@@ -4,10 +4,10 @@ ghost use Rattle.std.specs.Prelude.{◌≡◌, ◌≤◌, ◌++◌, ◌∷◌, �
 ghost use Rattle.vx_base.specs.declared.arithmetic.Code.TheVariants.{Add, ToBranch};
 ghost use Rattle.vx_base.specs.declared.arithmetic.Compare.TheVariants.{Ltu};
 ghost use Rattle.vx_isa.specs.Fits.{fits};
-ghost use Rattle.vx_isa.specs.declared.operation.Operation.TheVariants.{BranchOn, Compute, Load, Move, ToLink};
+ghost use Rattle.vx_isa.specs.declared.operation.Operation.TheVariants.{BranchOn, Call, Compute, Load, Move, ToLink};
 ghost use Rattle.vx_isa.specs.declared.operation.Register.TheVariants.{Branch as InBranch, General as InGeneral};
 ghost use Rattle.vx_isa.specs.declared.operation.Source.TheVariants.{Held, Number};
-ghost use Rattle.vx_target.specs.Target.{bytes, general, one, pause, together, settled, stack_on, on_clusters, parameters_of, first_frame, fetch_words, fetched, cluster_of_operand, argument_words, result_words, save_words, reload_words, stack_steps, move_stack, leave_or_lower, call_words, back_words, leave_words, return_words, way, link_words, begin_words, entry_words, wanted, set_stack, start_words, load_slots};
+ghost use Rattle.vx_target.specs.Target.{bytes, general, one, pause, together, settled, stack_on, on_clusters, parameters_of, first_frame, fetch_words, fetched, cluster_of_operand, passes, is_none, argument_words, result_words, save_words, reload_words, stack_steps, move_stack, leave_or_lower, call_words, back_words, leave_words, return_words, way, link_words, begin_words, entry_words, wanted, set_stack, start_words, load_slots};
 ghost use Rattle.vx_slots.specs.Seen.{seen};
 
 use crate::lookups::{brought, entered_at, entry, is_caller, parameters, saved};
@@ -187,30 +187,53 @@ fn cluster_of(whole: &Whole, function: u32, operand: Operand) -> u32
     }
 }
 
-/// An argument into the slot of its parameter.
+/// The store of an argument into the slot of its parameter.
 fn pass(
-    alloc: Global,
     whole: &Whole,
     function: u32,
     called: u32,
     parameter: Value,
     argument: Operand,
-    words: &mut Listed<Word>,
-) -> Result<(), NoMemory>
-    ensures { IfOk result (λ _. words.new ≡ words.old ++ argument_words (seen whole.now) function called (parameter ∷ []) (argument ∷ [])) }
+) -> Result<Operation, NoMemory>
+    ensures { IfOk result (λ store. store ≡ passes (seen whole.now) function called parameter argument) }
 {
-    fetch(alloc, whole, function, whole.sizes.frame, argument, words)?;
     let cluster = cluster_of(whole, function, argument);
-    let store = Operation::Store {
+    let offset = bytes(slot(whole, called, parameter))?;
+    Ok(Operation::Store {
         cluster,
-        offset: bytes(slot(whole, called, parameter))?,
+        offset,
         base: stack_on(cluster),
         from: fetched(whole, function, argument),
-    };
-    push_one(alloc, store, words)
+    })
 }
 
-/// Each argument into the slot of its parameter, in the frame of the function that is called.
+/// The call of a function.
+fn call_of(whole: &Whole, called: u32) -> Operation
+    ensures { result ≡ Call ((seen whole.now).entry called) }
+{
+    Operation::Call {
+        target: entry(whole, called),
+    }
+}
+
+/// A word of a store and a call.
+fn store_and_call(alloc: Global, store: Operation, call: Operation) -> Result<Word, NoMemory>
+    ensures { IfOk result (λ word. word ≡ record { ops = store ∷ call ∷ []; idle = 0 }) }
+{
+    let ops = copied(alloc, &[store, call])?;
+    Ok(Word { ops, idle: 0 })
+}
+
+/// Whether no argument is left, and a machine has room for a word of a store and a call.
+#[tactic(auto, using(crate::proofs::CallSteps::none_is))]
+fn is_last(machine: &Machine, more: &[Value], word: &Word) -> bool
+    ensures { result ≡ is_none more.now && fits machine.now word.now.ops }
+{
+    more.is_empty() && fits(machine, word)
+}
+
+/// Each argument into the slot of its parameter, in the frame of the function that is called, and the call; the last argument is stored
+/// in the word of the call, if the machine has room for both.
 fn pass_all(
     alloc: Global,
     whole: &Whole,
@@ -223,11 +246,18 @@ fn pass_all(
     ensures { IfOk result (λ _. words.new ≡ words.old ++ argument_words (seen whole.now) function called parameters.now arguments.now) }
 {
     match parameters.split_first() {
-        None => Ok(()),
+        None => push_one(alloc, call_of(whole, called), words),
         Some((parameter, parameters)) => match arguments.split_first() {
-            None => Ok(()),
+            None => push_one(alloc, call_of(whole, called), words),
             Some((argument, arguments)) => {
-                pass(alloc, whole, function, called, *parameter, *argument, words)?;
+                fetch(alloc, whole, function, whole.sizes.frame, *argument, words)?;
+                let store = pass(whole, function, called, *parameter, *argument)?;
+                let word = store_and_call(alloc, store, call_of(whole, called))?;
+                if is_last(whole.machine, parameters, &word) {
+                    words.push(word)?;
+                    return Ok(());
+                }
+                push_one(alloc, store, words)?;
                 pass_all(alloc, whole, function, called, parameters, arguments, words)
             }
         },
@@ -376,9 +406,7 @@ pub fn push_call(
     test_and_save(alloc, whole, function, saved(whole, function, place), words)?;
     leave_or_lower(alloc, whole, words)?;
     let passed = parameters(whole, called);
-    pass_all(alloc, whole, function, called, passed, arguments, words)?;
-    let target = entry(whole, called);
-    push_one(alloc, Operation::Call { target }, words)
+    pass_all(alloc, whole, function, called, passed, arguments, words)
 }
 
 /// The words behind a call: the stack pointers go up, the result is taken, and saved values come back.

@@ -6,7 +6,7 @@ use Rattle.vx_base.specs.declared.arithmetic.Code.TheVariants.{Add, Mov}
 use Rattle.vx_flow.specs.declared.graph.Op.TheVariants.{Compute}
 use Rattle.vx_flow.specs.declared.graph.Operand.TheVariants.{Held, Number}
 use Rattle.vx_isa.specs.declared.operation.Operation.{Operation}
-use Rattle.vx_isa.specs.declared.operation.Operation.TheVariants.{BranchOn, Compute as Computes, Goto, Move, Return as Leaves}
+use Rattle.vx_isa.specs.declared.operation.Operation.TheVariants.{BranchOn, Call as Calls, Compute as Computes, Goto, Move, Return as Leaves, Store as Stores}
 use Rattle.vx_isa.specs.declared.operation.Register.TheVariants.{General as InGeneral}
 use Rattle.vx_isa.specs.declared.operation.Source.TheVariants.{Held as From, Number as Immediate}
 use Rattle.vx_isa.specs.declared.program.Word.{Word}
@@ -16,7 +16,7 @@ use Rattle.vx_mixed.specs.declared.layout.VirtualWord.{VirtualWord}
 use Rattle.vx_mixed.specs.declared.layout.Laid.TheVariants.{Plain}
 use Rattle.vx_mixed.specs.declared.layout.VirtualWord.TheVariants.{Planned, Drain, Transfer, Call, Return, Ends}
 use Rattle.vx_regs.specs.declared.map.Kept.TheVariants.{InRegister}
-use Rattle.vx_target.specs.Target.{Target, most_transfers, most_spared, answer, stack_on, past, one, waits, word_words, leave_or_lower, call_words, back_words, entry_words, return_words}
+use Rattle.vx_target.specs.Target.{Target, most_transfers, most_spared, answer, stack_on, past, one, waits, word_words, argument_words, leave_or_lower, call_words, back_words, entry_words, return_words}
 
 -- three values in registers, of which two are saved round a call, and the first is a parameter; the layout of every function has
 -- these words, and word p of function f begins at place 10 + p
@@ -128,8 +128,24 @@ leaf = laid (Return (Number (pos 0)) ∷ [])
 abbrev caller : Target
 caller = laid (Call 0 [] (Some 2) ∷ Return (Number (pos 0)) ∷ [])
 
-call_lasts : lasts (call_words caller 0 0 0 (Number (pos 7) ∷ [])) ≡ 6
+call_lasts : lasts (call_words caller 0 0 0 (Number (pos 7) ∷ [])) ≡ 5
 call_lasts = refl
+
+-- the only argument is stored in the word of the call, and of two the last one; where there is one slot, before it
+abbrev seven : Operation
+seven = Stores 0 (pos 4) (stack_on 0) (Immediate (pos 7))
+
+abbrev eight : Operation
+eight = Stores 0 (pos 8) (stack_on 0) (Immediate (pos 8))
+
+beside_call : argument_words caller 0 0 (0 ∷ []) (Number (pos 7) ∷ []) ≡ record { ops = seven ∷ Calls 1 ∷ []; idle = 0 } ∷ []
+beside_call = refl
+
+last_beside_call : argument_words caller 0 0 (0 ∷ 1 ∷ []) (Number (pos 7) ∷ Number (pos 8) ∷ []) ≡ one seven ∷ record { ops = eight ∷ Calls 1 ∷ []; idle = 0 } ∷ []
+last_beside_call = refl
+
+before_call : argument_words (record caller { machine = narrow }) 0 0 (0 ∷ []) (Number (pos 7) ∷ []) ≡ one seven ∷ one (Calls 1) ∷ []
+before_call = refl
 
 -- the branch for the depth stands beside the step of the stack pointer, which goes down by the 16 bytes of a frame
 abbrev down_on : ℕ → Operation
@@ -200,10 +216,10 @@ unfolding most_transfers most_spared
 another_behind_goto = refl
 
 -- together
-leaf_called : lasts (call_words caller 0 0 0 (Number (pos 7) ∷ []) ++ (entry_words leaf 0 ++ (return_words leaf 0 (Number (pos 0)) ++ back_words caller 0 0 (Some 2)))) ≡ 16
+leaf_called : lasts (call_words caller 0 0 0 (Number (pos 7) ∷ []) ++ (entry_words leaf 0 ++ (return_words leaf 0 (Number (pos 0)) ++ back_words caller 0 0 (Some 2)))) ≡ 15
 unfolding most_transfers most_spared
 leaf_called = refl
 
-caller_called : lasts (call_words caller 0 0 0 (Number (pos 7) ∷ []) ++ (entry_words caller 0 ++ (return_words caller 0 (Number (pos 0)) ++ back_words caller 0 0 (Some 2)))) ≡ 20
+caller_called : lasts (call_words caller 0 0 0 (Number (pos 7) ∷ []) ++ (entry_words caller 0 ++ (return_words caller 0 (Number (pos 0)) ++ back_words caller 0 0 (Some 2)))) ≡ 19
 unfolding most_transfers most_spared
 caller_called = refl

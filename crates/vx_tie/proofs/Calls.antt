@@ -25,7 +25,7 @@ use Rattle.vx_flow.proofs.SoundFlowLaw.{told}
 use Rattle.vx_isa.specs.declared.operation.Register.{Register}
 use Rattle.vx_isa.specs.declared.operation.Register.TheVariants.{General, Branch, Link}
 use Rattle.vx_isa.specs.declared.operation.Source.TheVariants.{Held, Number}
-use Rattle.vx_isa.specs.declared.operation.Operation.TheVariants.{Compute, EndByTrap, Call as Jumps}
+use Rattle.vx_isa.specs.declared.operation.Operation.TheVariants.{Compute, EndByTrap}
 use Rattle.vx_isa.specs.declared.program.Word.{Word}
 use Rattle.vx_isa.specs.declared.program.WordProgram.{WordProgram}
 use Rattle.vx_isa.specs.Machine.{State, TrapsBy, register, is_one, leads_to, unless_stuck, effect, issue, step}
@@ -40,7 +40,7 @@ use Rattle.vx_target.specs.Tied.{Tied, AtWord, Shows, Stacked, IsStack, Seated, 
 use Rattle.vx_target.specs.Carried.{Carries, IsFunctionOf, NeedsSlot, is_passed, is_saved, is_spilled, Survives}
 use Rattle.vx_target.specs.Seats.{Seats, is_slot}
 use Rattle.vx_target.proofs.Bytes.{unsigned_small}
-use Rattle.vx_target.proofs.Calm.{seen, AllFit, after, put_at, put_off, not_stuck, effect_is}
+use Rattle.vx_target.proofs.Calm.{seen, AllFit, after, not_stuck, effect_is}
 use Rattle.vx_target.proofs.Proper.{itself, shows_itself}
 use Rattle.vx_target.proofs.Frames.{get_below, get_in, frame_room, link_in_frame, below_keep}
 use Rattle.vx_target.proofs.SeatRoom.{table, framed_from}
@@ -48,7 +48,7 @@ use Rattle.vx_target.proofs.SeatSteps.{seated_on, entered_stack, entered_seated,
 use Rattle.vx_target.proofs.Live.{live_bank}
 use Rattle.vx_target.proofs.Names.{in_register, named, number_at, apart_mixed, not_zero, not_general, not_first_branch}
 use Rattle.vx_target.proofs.FromGraph.{branch_plain, parameter_plain, place_made, whole_bank, has_whole, whole_is}
-use Rattle.vx_tie.proofs.Passing.{CanFetch, OperandAt, OperandsAt, Passed as Given, pass_run}
+use Rattle.vx_tie.proofs.Passing.{CanFetch, OperandAt, OperandsAt, Called as Given, pass_run}
 use Rattle.vx_tie.proofs.Simple.{few_one}
 use Rattle.vx_mixed.specs.Settled.{NoTwice}
 use Rattle.vx_target.proofs.Enough.{some_cluster, some_issue}
@@ -59,7 +59,7 @@ use Rattle.vx_target.proofs.Stands.{word_stands, depth_stands}
 use Rattle.vx_target.proofs.Word.{own_name, kept_shows}
 use Rattle.vx_tie.specs.Planned.{CarriesOn, EndsAlike, CallLaw}
 use Rattle.vx_tie.proofs.PastTransfers.{one_on}
-use Rattle.vx_target.proofs.Steps.{Stands, stands_left, stands_right, Quiet, quiet_on, Comes, Forth, comes_on, then_forth, forth_comes, Set, set_step, Paused, pause_step, word_step}
+use Rattle.vx_target.proofs.Steps.{Stands, stands_left, stands_right, Quiet, quiet_on, Comes, Forth, comes_on, then_forth, forth_comes, Set, set_step, Paused, pause_step}
 
 abbrev is_branch_register : Register → Bool
 is_branch_register (General r) = false
@@ -123,7 +123,7 @@ module _ (T : Target) (flow : Flow) (ls : List VWords) (w : WordProgram) (sound 
   Leaves = leave_or_lower T
 
   abbrev Passes : List Word
-  Passes = argument_words T F g (parameters_of T g) arguments ++ one (Jumps (T.entry g)) ∷ []
+  Passes = argument_words T F g (parameters_of T g) arguments
 
   abbrev Compares : Word
   Compares = one (Compute 0 (ToBranch Ltu) (Branch (record { cluster = 0; number = 0 })) (Held (stack_on 0)) (Number (bytes (T.globals + T.frame))))
@@ -384,46 +384,32 @@ module _ (T : Target) (flow : Flow) (ls : List VWords) (w : WordProgram) (sound 
       passing : Stands w.words E.place Passes
       passing = subst (λ q. Stands w.words q Passes) (sym lowered.place) (stands_right w.words C.place Leaves Passes branching)
 
-      passed : Given T.machine w fit T F Base carries.memory small some E g Parameters ns (length (argument_words T F g Parameters arguments))
-      passed = pass_run T.machine w fit T F Base carries.memory small some g Parameters arguments ns E lowered.quiet.calm stack_e (stands_left w.words E.place (argument_words T F g Parameters arguments) (one (Jumps (T.entry g)) ∷ []) passing)
+      passed : Given T.machine w fit T F Base carries.memory small some E g Parameters ns (length Passes)
+      passed = pass_run T.machine w fit T F Base carries.memory small some g Parameters arguments ns E lowered.quiet.calm stack_e passing
           (operands_from arguments ns (λ x i. i) are)
           (λ x y i j sx sy. apart_mixed T F of.mapped (x ∷ []) (y ∷ []) x y (its_bank x i) (few_one T F of.mapped y (some_issue T.machine carries.machine)) (inl refl) sx sy)
           (λ v i. let a = its.framed.slot_to v (is_passed i) in let b = room in let c = base_is in omega arith)
           (λ v i. its.framed.slot_to v (is_passed i)) (λ x y i j e. its.framed.slots x y (is_passed i) (is_passed j) e)
           (no_twice Parameters (λ i j v lt a b. sound.parameters (T.graph g) i j v (get_in flow.functions g (T.graph g) its.is.graph) lt a b))
 
-      abbrev P : State
-      P = passed.to
-
-      abbrev Jump : Word
-      Jump = one (Jumps (T.entry g))
-
-      jump_at : slice_get w.words P.place ≡ Some Jump
-      jump_at = subst (λ q. slice_get w.words q ≡ Some Jump) (sym passed.place) (stands_right w.words E.place (argument_words T F g Parameters arguments) (Jump ∷ []) passing).0
-
       abbrev G : State
-      G = after w P Jump (T.entry g)
+      G = passed.to
 
       forth_g : Forth T.machine w fit u G
-      forth_g = then_forth T.machine w fit u P G (comes_on T.machine w fit u E P comes_e passed.comes) (word_step T.machine w fit P Jump (T.entry g) passed.quiet.calm jump_at (record { addresses = refl; input = refl }) refl)
+      forth_g = then_forth T.machine w fit u E G comes_e passed.forth
 
-      back_is : P.place + 1 ≡ T.back F p
+      back_is : E.place + length Passes ≡ T.back F p
       back_is =
-          let a = passed.place in
           let c = place_c in
           let d : E.place ≡ C.place + length Leaves = lowered.place in
           let e : T.back F p ≡ T.starts F p + suc (length ((Saves ++ Late) ++ Branching)) = carries.placed.backs F p g arguments result plan in
           let h = at_word.place in
           let l1 : length ((Saves ++ Late) ++ Branching) ≡ length (Saves ++ Late) + length (Leaves ++ Passes) = length-append (Saves ++ Late) Branching in
-          let l2 : length Passes ≡ length (argument_words T F g Parameters arguments) + 1 = length-append (argument_words T F g Parameters arguments) (Jump ∷ []) in
           let l3 : length (Leaves ++ Passes) ≡ length Leaves + length Passes = length-append Leaves Passes in
           omega arith
 
       link_is : G.registers Link ≡ wrap (pos (T.back F p))
-      link_is = put_at Link (wrap (pos (P.place + 1))) P.registers refl ∙ ap (λ n. wrap (pos n)) back_is
-
-      stack_g : (k : ℕ) → k < T.machine.clusters → register G (General (stack_on k)) ≡ pos (4 * Base)
-      stack_g k lt = put_off Link (wrap (pos (P.place + 1))) P.registers (General (stack_on k)) (λ e. absurd (cc)) ∙ passed.stack k lt
+      link_is = passed.link ∙ ap (λ n. wrap (pos n)) back_is
 
       -- memory
 
@@ -555,16 +541,16 @@ module _ (T : Target) (flow : Flow) (ls : List VWords) (w : WordProgram) (sound 
         tied = record {
           sp = Base;
           is = its.is;
-          calm = refl;
+          calm = passed.quiet.calm;
           deep = record { is = (let e = tied.deep.is in let b = base_is in let k : ℕ = length r.waiting in let m : T.frame * suc (suc k) ≡ T.frame * suc k + T.frame = grind arith in omega arith); most = more };
-          stack = stack_g;
-          at = inl (record { block = refl; place = refl; values = passed_values; link = link_is ∙ (let q : suc p - 1 ≡ p = omega arith in ap (λ n. wrap (pos (T.back F n))) (sym q)) });
+          stack = passed.stack;
+          at = inl (record { block = refl; place = passed.place; values = passed_values; link = link_is ∙ (let q : suc p - 1 ≡ p = omega arith in ap (λ n. wrap (pos (T.back F n))) (sym q)) });
           passed = refl;
           stacked = subst (λ x. IsStack T flow ls Base (length Rows) (Above x)) (sym base_is) stacked;
           seated = subst (λ x. Seated T flow.globals (Above x) Rows G.memory) (sym base_is) seated;
           below = all_below;
           input = passed.quiet.input ∙ lowered.quiet.input ∙ quiet_c.input ∙ tied.input;
-          out = append-nil P.out ∙ passed.quiet.out ∙ lowered.quiet.out ∙ quiet_c.out ∙ tied.out;
+          out = passed.quiet.out ∙ lowered.quiet.out ∙ quiet_c.out ∙ tied.out;
           safe = safe_after (next (laid_program flow ls)) (λ x. x.state.out) 1 r Entered (reach_one (next (laid_program flow ls)) r Entered steps) tied.safe;
         };
       }

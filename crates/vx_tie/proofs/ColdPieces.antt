@@ -20,7 +20,7 @@ use Rattle.vx_isa.specs.declared.operation.Operation.TheVariants.{Compute, Move,
 use Rattle.vx_isa.specs.declared.program.Word.{Word}
 use Rattle.vx_isa.specs.Fits.{destinations, fits}
 use Rattle.vx_isa.specs.Operations.{same, latency_of}
-use Rattle.vx_target.specs.Target.{Target, answer, general, general_of, branch_of, register_of, stack_on, home, holds_branch, is_slotted, kept, parameters_of, one, together, pause, latest, in_flight, settled, load_slot, on_clusters, move_stack, leave_or_lower, fetch_words, fetched, cluster_of_operand, argument_words, save_words, result_words, call_words, is_caller, answer_words, last_beside, leave_words, return_words, start_words, bytes, first_frame}
+use Rattle.vx_target.specs.Target.{Target, answer, general, general_of, branch_of, register_of, stack_on, home, holds_branch, is_slotted, kept, parameters_of, one, together, pause, latest, in_flight, settled, load_slot, on_clusters, move_stack, leave_or_lower, fetch_words, fetched, cluster_of_operand, passes, calls_beside, store_or_call, argument_words, save_words, result_words, call_words, is_caller, answer_words, last_beside, leave_words, return_words, start_words, bytes, first_frame}
 use Rattle.vx_tie.proofs.Early.{falls, Jumps, Touches, hits}
 use Rattle.vx_target.proofs.Pauses.{flight_append, flight_pause}
 use Rattle.vx_tie.proofs.SaveHeats.{tested, saves_late}
@@ -103,13 +103,14 @@ module _ (T : Target) (heat : ℕ → Register → ℕ) where
   fetch_fine f up (AsNumber n) rest e more = more
   fetch_fine f up Stack rest e more = more
 
-  pub arguments_fine : (f g : ℕ) (vs : List ℕ) (xs : List Operand) (rest : List Word) (e : Register → ℕ) → Fine cold rest e → Fine cold (argument_words T f g vs xs ++ rest) e
-  arguments_fine f g [] xs rest e more = more
-  arguments_fine f g (v ∷ vs) [] rest e more = more
-  arguments_fine f g (v ∷ vs) (x ∷ xs) rest e more =
-      let last : Word = one (Store (cluster_of_operand T f x) (bytes (T.slot g v)) (stack_on (cluster_of_operand T f x)) (fetched T f x)) in
-      subst (λ ws. Fine cold ws e) (sym (append_assoc (fetch_words T f T.frame x) (last ∷ argument_words T f g vs xs) rest))
-      (fetch_fine f T.frame x (last ∷ (argument_words T f g vs xs ++ rest)) e (store_fine (cluster_of_operand T f x) (bytes (T.slot g v)) (stack_on (cluster_of_operand T f x)) (fetched T f x) (argument_words T f g vs xs ++ rest) e (arguments_fine f g vs xs rest e more)))
+  pub arguments_fine : (f g : ℕ) (vs : List ℕ) (xs : List Operand) (e : Register → ℕ) → Fine cold (argument_words T f g vs xs) e
+  arguments_fine f g [] xs e = call_fine (T.entry g) [] e (nothing_fine e)
+  arguments_fine f g (v ∷ vs) [] e = call_fine (T.entry g) [] e (nothing_fine e)
+  arguments_fine f g (v ∷ vs) (x ∷ xs) e = fetch_fine f T.frame x (store_or_call T g vs (passes T f g v x) (argument_words T f g vs xs)) e (by (calls_beside T g vs (passes T f g v x)) (arguments_fine f g vs xs e))
+    where
+      by : (b : Bool) → Fine cold (argument_words T f g vs xs) e → Fine cold (if b then record { ops = passes T f g v x ∷ Call (T.entry g) ∷ []; idle = 0 } ∷ [] else one (passes T f g v x) ∷ argument_words T f g vs xs) e
+      by true h = stop_fine T.machine heat cold (passes T f g v x ∷ Call (T.entry g) ∷ []) [] e refl (λ p r j. omega arith) refl (λ r t. refl) (nothing_fine e)
+      by false h = store_fine (cluster_of_operand T f x) (bytes (T.slot g v)) (stack_on (cluster_of_operand T f x)) (fetched T f x) (argument_words T f g vs xs) e h
 
   pub result_fine : (f : ℕ) (result : Option ℕ) (rest : List Word) (e : Register → ℕ) → Fine cold rest e → Fine cold (result_words T f result ++ rest) e
   result_fine f None rest e more = more
@@ -173,7 +174,7 @@ module _ (T : Target) (heat : ℕ → Register → ℕ) where
   -- the depth is tested while values are saved, which are in other registers than the test
   pub call_words_fine : (f p g : ℕ) (xs : List Operand) (e : Register → ℕ) → ((v : ℕ) → IsIn v (T.saved f p) → register_of T f (T.saved f p) v ≢ tested) → Fine cold (call_words T f p g xs) e
   call_words_fine f p g xs e others =
-      let w3 : List Word = argument_words T f g (parameters_of T g) xs ++ one (Call (T.entry g)) ∷ [] in
+      let w3 : List Word = argument_words T f g (parameters_of T g) xs in
       let w1 : List Word = leave_or_lower T ++ w3 in
       let test : Operation = Compute 0 (ToBranch Ltu) (InBranch (record { cluster = 0; number = 0 })) (Held (stack_on 0)) (Number (bytes (T.globals + T.frame))) in
       let saves : List Word = save_words T f (T.saved f p) in
@@ -181,8 +182,7 @@ module _ (T : Target) (heat : ℕ → Register → ℕ) where
       subst (λ ws. Fine cold (one test ∷ ws) e) (sym (append_assoc saves (pause (in_flight T.machine t saves)) w1))
       (word_fine T.machine heat 0 cold cold [] (test ∷ []) (saves ++ (pause (in_flight T.machine t saves) ++ w1)) e refl (stays 1 cold) (λ q r j. absurd j) (λ r t. refl)
       (saves_late T heat f (T.saved f p) t (T.saved f p) w1 e others
-      (lower_fine w3 e
-      (arguments_fine f g (parameters_of T g) xs (one (Call (T.entry g)) ∷ []) e (call_fine (T.entry g) [] e (nothing_fine e))))))
+      (lower_fine w3 e (arguments_fine f g (parameters_of T g) xs e))))
 
   -- the link is loaded while the answer may be in flight
   one_by_one : (f : ℕ) (x : Operand) (rest : List Word) (e : Register → ℕ) → Fine cold rest e → Fine cold ((settled T (one (Move 0 answer (fetched T f x)) ∷ one (Load 0 (general 0 3) (pos 0) (stack_on 0) false) ∷ []) ++ settled T (one (ToLink (Held (general 0 3))) ∷ [])) ++ rest) e

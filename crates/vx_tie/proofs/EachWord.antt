@@ -27,11 +27,11 @@ use Rattle.vx_mixed.specs.declared.layout.VirtualWord.TheVariants.{Planned, Drai
 use Rattle.vx_mixed.specs.declared.layout.VWords.{VWords}
 use Rattle.vx_mixed.specs.LaidSettled.{laid_reads, laid_writes}
 use Rattle.vx_regs.specs.Intervals.{is_named, word_reads, word_writes}
-use Rattle.vx_target.specs.Target.{Target, answer, general, general_of, branch_of, stack_on, holds_branch, is_slotted, kept, slotted, once, parameters_of, one, together, pause, in_flight, settled, set_stack, slots_in_flight, load_slot, store_slot, load_slots, store_slots, if_some, before, behind, plan_word, plan_words, most_transfers, past, landing_words, on_clusters, stack_steps, move_stack, leave_or_lower, save_words, reload_words, fetch_words, fetched, cluster_of_operand, argument_words, result_words, call_words, back_words, is_caller, answer_words, last_beside, leave_words, return_words, follows, way, link_words, begin_words, wanted, entry_words, turns, idle_words, word_words, start_words, waits, bytes, first_frame}
+use Rattle.vx_target.specs.Target.{Target, answer, general, general_of, branch_of, stack_on, holds_branch, is_slotted, kept, slotted, once, parameters_of, one, together, pause, in_flight, settled, set_stack, slots_in_flight, load_slot, store_slot, load_slots, store_slots, if_some, before, behind, plan_word, plan_words, most_transfers, past, landing_words, on_clusters, stack_steps, move_stack, leave_or_lower, save_words, reload_words, fetch_words, fetched, cluster_of_operand, passes, calls_beside, store_or_call, argument_words, result_words, call_words, back_words, is_caller, answer_words, last_beside, leave_words, return_words, follows, way, link_words, begin_words, wanted, entry_words, turns, idle_words, word_words, start_words, waits, bytes, first_frame}
 use Rattle.vx_target.specs.Placed.{Depth, Labelled, PlacedAt, place_of, laid_pieces, landing_of, item_landings, word_landings, landing_pieces, function_pieces, functions_pieces, all_pieces, words_of}
 use Rattle.vx_target.specs.Carried.{Carries, IsFunctionOf, IsMapped, NeedsSlot, is_passed, is_spilled, is_saved}
 use Rattle.vx_target.specs.Places.{plan_place}
-use Rattle.vx_tie.specs.Plans.{IsOther, loads_slot, stores_slot, picks_number, tests_number, moves, tests_depth, leaves_by_depth, leaves_or_lowers, moves_stacks, calls, takes_link, stores_link, sets_stacks, loads_link, moves_and_loads_link, gives_link, returns, moves_and_returns, traps, halts, idles, goes, branches, IsTurnedTo, at_entry, by_transfer, by_choice, by_split}
+use Rattle.vx_tie.specs.Plans.{IsOther, loads_slot, stores_slot, picks_number, tests_number, moves, tests_depth, leaves_by_depth, leaves_or_lowers, moves_stacks, calls, stores_slot_and_calls, takes_link, stores_link, sets_stacks, loads_link, moves_and_loads_link, gives_link, returns, moves_and_returns, traps, halts, idles, goes, branches, IsTurnedTo, at_entry, by_transfer, by_choice, by_split}
 use Rattle.vx_target.proofs.FromPlace.{StandFrom, stand_here, stand_on, stand_from_start}
 use Rattle.vx_target.proofs.Enough.{in_all_of}
 use Rattle.vx_target.proofs.Frames.{get_below, get_in, past_keeps}
@@ -243,11 +243,15 @@ module _ (T : Target) (flow : Flow) (ls : List VWords) (w : WordProgram) (sound 
     fetch_other up Stack n h = tt
 
     arguments_other : (g : ℕ) (vs : List ℕ) (xs : List Operand) → g < Count → ((v : ℕ) → IsIn v vs → NeedsSlot T g v) → ((x : Operand) → IsIn x xs → Fetches x) → Words (argument_words T f g vs xs)
-    arguments_other g [] xs below h n = tt
-    arguments_other g (v ∷ vs) [] below h n = tt
+    arguments_other g [] xs below h n = (calls g below, tt)
+    arguments_other g (v ∷ vs) [] below h n = (calls g below, tt)
     arguments_other g (v ∷ vs) (x ∷ xs) below h n =
-        append (fetch_words T f T.frame x) (one (Store (cluster_of_operand T f x) (bytes (T.slot g v)) (stack_on (cluster_of_operand T f x)) (fetched T f x)) ∷ argument_words T f g vs xs)
-        (fetch_other T.frame x (n x (inl refl)) (inr refl)) (stores_slot g v (cluster_of_operand T f x) (fetched T f x) below (h v (inl refl)), arguments_other g vs xs below (λ u i. h u (inr i)) (λ y i. n y (inr i)))
+        append (fetch_words T f T.frame x) (store_or_call T g vs (passes T f g v x) (argument_words T f g vs xs)) (fetch_other T.frame x (n x (inl refl)) (inr refl))
+        (by (calls_beside T g vs (passes T f g v x)) (arguments_other g vs xs below (λ u i. h u (inr i)) (λ y i. n y (inr i))))
+      where
+        by : (b : Bool) → Words (argument_words T f g vs xs) → Words (if b then record { ops = passes T f g v x ∷ Call (T.entry g) ∷ []; idle = 0 } ∷ [] else one (passes T f g v x) ∷ argument_words T f g vs xs)
+        by true r = (stores_slot_and_calls g v (cluster_of_operand T f x) (fetched T f x) below (h v (inl refl)), tt)
+        by false r = (stores_slot g v (cluster_of_operand T f x) (fetched T f x) below (h v (inl refl)), r)
 
     result_other : (result : Option ℕ) → ((v : ℕ) → result ≡ Some v → IfSlotted v) → Words (result_words T f result)
     result_other None n = tt
@@ -260,12 +264,10 @@ module _ (T : Target) (flow : Flow) (ls : List VWords) (w : WordProgram) (sound 
     call_other : (p g : ℕ) (xs : List Operand) → g < Count → AllNeed (T.saved f p) → ((x : Operand) → IsIn x xs → Fetches x) → Words (call_words T f p g xs)
     call_other p g xs below saved n =
         let test : Operation = Compute 0 (ToBranch Ltu) (InBranch (record { cluster = 0; number = 0 })) (Held (stack_on 0)) (Number (bytes (T.globals + T.frame))) in
-        let passes : List Word = argument_words T f g (parameters_of T g) xs in
-        let jumps : List Word = one (Call (T.entry g)) ∷ [] in
-        let passed : Words (passes ++ jumps) = append passes jumps (arguments_other g (parameters_of T g) xs below (λ v i. is_passed i) n) (calls g below, tt) in
-        let lowered : Words (leave_or_lower T ++ (passes ++ jumps)) = append (leave_or_lower T) (passes ++ jumps) lower_other passed in
+        let passed : List Word = argument_words T f g (parameters_of T g) xs in
+        let lowered : Words (leave_or_lower T ++ passed) = append (leave_or_lower T) passed lower_other (arguments_other g (parameters_of T g) xs below (λ v i. is_passed i) n) in
         let saves : List Word = save_words T f (T.saved f p) in
-        append (settled T (one test ∷ saves)) (leave_or_lower T ++ (passes ++ jumps)) (settled_other (one test ∷ saves) (tests_depth, store_slots_other (T.saved f p) (T.saved f p) saved)) lowered
+        append (settled T (one test ∷ saves)) (leave_or_lower T ++ passed) (settled_other (one test ∷ saves) (tests_depth, store_slots_other (T.saved f p) (T.saved f p) saved)) lowered
 
     back_other : (p : ℕ) (result : Option ℕ) → AllNeed (T.saved f p) → ((v : ℕ) → result ≡ Some v → IfSlotted v) → Words (back_words T f p result)
     back_other p result saved n =

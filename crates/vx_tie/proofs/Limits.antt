@@ -50,6 +50,12 @@ good_behind m op ops none keeps good fit =
     let a = not_bad (is_twice (destinations ops)) (list_all keeps_to_cluster ops) (list_all (is_in_file m) (operands ops ++ destinations ops)) good.0 in
     well m (op ∷ ops) (ap (λ d. is_twice (list_of d ++ destinations ops)) none ∙ a.0) (ap (λ b. b && list_all keeps_to_cluster ops) keeps ∙ a.1) fit
 
+-- an operation of a good word keeps to its cluster
+pub keeps_alone : (m : Numbers) (op : Operation) → Good m (op ∷ []) → keeps_to_cluster op ≡ true
+keeps_alone m op good =
+    let a = not_bad (is_twice (destinations (op ∷ []))) (list_all keeps_to_cluster (op ∷ [])) (list_all (is_in_file m) (operands (op ∷ []) ++ destinations (op ∷ []))) good.0 in
+    (and_parts (keeps_to_cluster op) true a.1).0
+
 -- counts
 
 abbrev pub bit : Bool → ℕ

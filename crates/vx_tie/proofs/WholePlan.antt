@@ -16,7 +16,7 @@ use Rattle.vx_target.specs.Target.{Target}
 use Rattle.vx_target.specs.Carried.{Carries}
 use Rattle.vx_target.specs.Finish.{Finishes}
 use Rattle.vx_target.specs.Places.{plan_place}
-use Rattle.vx_tie.specs.Plans.{IsOther, loads_slot, stores_slot, picks_number, tests_number, moves, tests_depth, leaves_by_depth, leaves_or_lowers, moves_stacks, calls, takes_link, stores_link, sets_stacks, loads_link, moves_and_loads_link, gives_link, returns, moves_and_returns, traps, halts, idles, goes, branches, IsPlanPlace, IsIdle, cycles_at, cycles_from, CarriesPlan, AreSpaced, PlanLaw}
+use Rattle.vx_tie.specs.Plans.{IsOther, loads_slot, stores_slot, picks_number, tests_number, moves, tests_depth, leaves_by_depth, leaves_or_lowers, moves_stacks, calls, stores_slot_and_calls, takes_link, stores_link, sets_stacks, loads_link, moves_and_loads_link, gives_link, returns, moves_and_returns, traps, halts, idles, goes, branches, IsPlanPlace, IsIdle, cycles_at, cycles_from, CarriesPlan, AreSpaced, PlanLaw}
 use Rattle.vx_tie.proofs.EachWord.{IsPlanWord, word_kind, plan_stands}
 use Rattle.vx_tie.proofs.IdleWords.{Operates, Busy, busy_beside}
 
@@ -37,6 +37,7 @@ module _ (T : Target) (count : ℕ) where
   short word leaves_or_lowers e = absurd (cc)
   short word (moves_stacks z h) e = omega arith
   short word (calls f lt) e = absurd (cc)
+  short word (stores_slot_and_calls f v k from lt n) e = absurd (cc)
   short word takes_link e = absurd (cc)
   short word stores_link e = absurd (cc)
   short word sets_stacks e = omega arith

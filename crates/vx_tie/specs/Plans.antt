@@ -50,12 +50,13 @@ pub data IsOther (T : Target) (functions : ℕ) : Word → Type 0 where
   tests_number : (b : ℕ) → IsOther T functions (one (Compute 0 (ToBranch Ne) (InBranch (record { cluster = 0; number = b })) (Held answer) (Number (pos 0))))
   moves : (k : ℕ) (to : GeneralRegister) (from : Source) → IsOther T functions (one (Move k to from))
   -- calls: the depth is tested, and the stack pointers of all clusters go a frame down, perhaps in the word that leaves by the depth,
-  -- and behind the call up again
+  -- and behind the call up again; the last argument goes to its slot, perhaps in the word of the call
   tests_depth : IsOther T functions (one (Compute 0 (ToBranch Ltu) (InBranch (record { cluster = 0; number = 0 })) (Held (stack_on 0)) (Number (bytes (T.globals + T.frame)))))
   leaves_by_depth : IsOther T functions (one (BranchOn 0 true T.depth_trap))
   leaves_or_lowers : IsOther T functions (record { ops = BranchOn 0 true T.depth_trap ∷ stack_steps T (neg_ℤ (bytes T.frame)); idle = 0 })
   moves_stacks : (z : ℤ) → (z ≡ bytes T.frame) ⊎ (z ≡ neg_ℤ (bytes T.frame)) → IsOther T functions (record { ops = on_clusters T.machine.clusters (λ k. Compute k Add (InGeneral (stack_on k)) (Held (stack_on k)) (Number z)); idle = 0 })
   calls : (f : ℕ) → f < functions → IsOther T functions (one (Call (T.entry f)))
+  stores_slot_and_calls : (f v k : ℕ) (from : Source) → f < functions → NeedsSlot T f v → IsOther T functions (record { ops = Store k (bytes (T.slot f v)) (stack_on k) from ∷ Call (T.entry f) ∷ []; idle = 0 })
   -- entries: the link goes to the frame; at the start of the program the stack pointers are set
   takes_link : IsOther T functions (one (FromLink (general 0 3)))
   stores_link : IsOther T functions (one (Store 0 (pos 0) (stack_on 0) (Held (general 0 3))))
