@@ -1,24 +1,26 @@
 // The words of calls, returns, entries and of a program's start.
 
-ghost use Rattle.std.specs.Prelude.{◌≡◌, ◌≤◌, ◌++◌, ◌∷◌, ◌+◌, [], neg_ℤ, pos, true, false, drop, length, Some, IfOk};
+ghost use Rattle.std.specs.Prelude.{◌≡◌, ◌≤◌, ◌++◌, ◌∷◌, ◌+◌, ◌==◌, ◌&&◌, [], neg_ℤ, pos, true, false, drop, length, Some, IfOk};
 ghost use Rattle.vx_base.specs.declared.arithmetic.Code.TheVariants.{Add, ToBranch};
 ghost use Rattle.vx_base.specs.declared.arithmetic.Compare.TheVariants.{Ltu};
-ghost use Rattle.vx_isa.specs.declared.operation.Operation.TheVariants.{BranchOn, Compute, Load, Move, ToLink};
+ghost use Rattle.vx_isa.specs.Fits.{fits};
+ghost use Rattle.vx_isa.specs.declared.operation.Operation.TheVariants.{BranchOn, Call, Compute, Load, Move, ToLink};
 ghost use Rattle.vx_isa.specs.declared.operation.Register.TheVariants.{Branch as InBranch, General as InGeneral};
 ghost use Rattle.vx_isa.specs.declared.operation.Source.TheVariants.{Held, Number};
-ghost use Rattle.vx_target.specs.Target.{bytes, general, one, pause, together, settled, stack_on, on_clusters, parameters_of, first_frame, fetch_words, fetched, cluster_of_operand, argument_words, result_words, save_words, reload_words, move_stack, call_words, back_words, leave_words, return_words, way, link_words, begin_words, entry_words, wanted, set_stack, start_words, load_slots};
+ghost use Rattle.vx_target.specs.Target.{bytes, general, one, pause, together, settled, stack_on, on_clusters, parameters_of, first_frame, fetch_words, fetched, cluster_of_operand, passes, is_none, argument_words, result_words, save_words, reload_words, stack_steps, move_stack, leave_or_lower, call_words, back_words, leave_words, return_words, way, link_words, begin_words, entry_words, wanted, set_stack, start_words, load_slots};
 ghost use Rattle.vx_slots.specs.Seen.{seen};
 
 use crate::lookups::{brought, entered_at, entry, is_caller, parameters, saved};
 use crate::pauses::{follows, wanted};
 use std::alloc::Global;
 use vx_base::arithmetic::{Code, Compare};
-use vx_base::listed::Listed;
+use vx_base::listed::{Listed, copied};
 use vx_base::outcome::NoMemory;
 use vx_base::sizes::sum;
 use vx_flow::graph::{Operand, Value};
 use vx_isa::operation::{BranchRegister, GeneralRegister, Operation, Register, Source};
 use vx_isa::program::Word;
+use vx_machine::{Machine, fits};
 use vx_slots::numbers::{DEEPEST, bytes};
 use vx_slots::program::{Whole, slot, start};
 use vx_slots::registers::{general, general_of, home, is_slotted, stack_on};
@@ -48,12 +50,16 @@ fn stack_step(cluster: u32, step: i32) -> Operation
     }
 }
 
-/// The operations that move the stack pointer of every cluster by so many bytes.
-#[tactic(auto, using(crate::proofs::CallSteps::clusters_none, crate::proofs::CallSteps::clusters_more))]
-fn stack_steps(alloc: Global, clusters: u32, step: i32) -> Result<Listed<Operation>, NoMemory>
-    ensures { IfOk result (λ ops. ops ≡ on_clusters clusters (λ k. Compute k Add (InGeneral (stack_on k)) (Held (stack_on k)) (Number step))) }
+/// The operations that move the stack pointer of every cluster by so many bytes, behind others.
+fn stack_steps(
+    alloc: Global,
+    first: &[Operation],
+    clusters: u32,
+    step: i32,
+) -> Result<Listed<Operation>, NoMemory>
+    ensures { IfOk result (λ ops. ops ≡ first.now ++ on_clusters clusters (λ k. Compute k Add (InGeneral (stack_on k)) (Held (stack_on k)) (Number step))) }
 {
-    let mut ops = Listed::new(alloc);
+    let mut ops = copied(alloc, first)?;
     for cluster in 0..clusters {
         ops.push(stack_step(cluster, step))?;
     }
@@ -69,7 +75,7 @@ fn move_stack(
 ) -> Result<(), NoMemory>
     ensures { IfOk result (λ _. words.new ≡ words.old ++ move_stack (seen whole.now) step) }
 {
-    let ops = stack_steps(alloc, whole.machine.clusters(), step)?;
+    let ops = stack_steps(alloc, &[], whole.machine.clusters(), step)?;
     push_settled_word(alloc, whole, Word { ops, idle: 0 }, words)
 }
 
@@ -181,30 +187,53 @@ fn cluster_of(whole: &Whole, function: u32, operand: Operand) -> u32
     }
 }
 
-/// An argument into the slot of its parameter.
+/// The store of an argument into the slot of its parameter.
 fn pass(
-    alloc: Global,
     whole: &Whole,
     function: u32,
     called: u32,
     parameter: Value,
     argument: Operand,
-    words: &mut Listed<Word>,
-) -> Result<(), NoMemory>
-    ensures { IfOk result (λ _. words.new ≡ words.old ++ argument_words (seen whole.now) function called (parameter ∷ []) (argument ∷ [])) }
+) -> Result<Operation, NoMemory>
+    ensures { IfOk result (λ store. store ≡ passes (seen whole.now) function called parameter argument) }
 {
-    fetch(alloc, whole, function, whole.sizes.frame, argument, words)?;
     let cluster = cluster_of(whole, function, argument);
-    let store = Operation::Store {
+    let offset = bytes(slot(whole, called, parameter))?;
+    Ok(Operation::Store {
         cluster,
-        offset: bytes(slot(whole, called, parameter))?,
+        offset,
         base: stack_on(cluster),
         from: fetched(whole, function, argument),
-    };
-    push_one(alloc, store, words)
+    })
 }
 
-/// Each argument into the slot of its parameter, in the frame of the function that is called.
+/// The call of a function.
+fn call_of(whole: &Whole, called: u32) -> Operation
+    ensures { result ≡ Call ((seen whole.now).entry called) }
+{
+    Operation::Call {
+        target: entry(whole, called),
+    }
+}
+
+/// A word of a store and a call.
+fn store_and_call(alloc: Global, store: Operation, call: Operation) -> Result<Word, NoMemory>
+    ensures { IfOk result (λ word. word ≡ record { ops = store ∷ call ∷ []; idle = 0 }) }
+{
+    let ops = copied(alloc, &[store, call])?;
+    Ok(Word { ops, idle: 0 })
+}
+
+/// Whether no argument is left, and a machine has room for a word of a store and a call.
+#[tactic(auto, using(crate::proofs::CallSteps::none_is))]
+fn is_last(machine: &Machine, more: &[Value], word: &Word) -> bool
+    ensures { result ≡ is_none more.now && fits machine.now word.now.ops }
+{
+    more.is_empty() && fits(machine, word)
+}
+
+/// Each argument into the slot of its parameter, in the frame of the function that is called, and the call; the last argument is stored
+/// in the word of the call, if the machine has room for both.
 fn pass_all(
     alloc: Global,
     whole: &Whole,
@@ -217,11 +246,18 @@ fn pass_all(
     ensures { IfOk result (λ _. words.new ≡ words.old ++ argument_words (seen whole.now) function called parameters.now arguments.now) }
 {
     match parameters.split_first() {
-        None => Ok(()),
+        None => push_one(alloc, call_of(whole, called), words),
         Some((parameter, parameters)) => match arguments.split_first() {
-            None => Ok(()),
+            None => push_one(alloc, call_of(whole, called), words),
             Some((argument, arguments)) => {
-                pass(alloc, whole, function, called, *parameter, *argument, words)?;
+                fetch(alloc, whole, function, whole.sizes.frame, *argument, words)?;
+                let store = pass(whole, function, called, *parameter, *argument)?;
+                let word = store_and_call(alloc, store, call_of(whole, called))?;
+                if is_last(whole.machine, parameters, &word) {
+                    words.push(word)?;
+                    return Ok(());
+                }
+                push_one(alloc, store, words)?;
                 pass_all(alloc, whole, function, called, parameters, arguments, words)
             }
         },
@@ -292,24 +328,67 @@ fn test_and_save(
     push_wait(alloc, whole, begin, words)
 }
 
-/// Leaves for the trap where the test says so.
-fn leave_by_depth(alloc: Global, whole: &Whole, words: &mut Listed<Word>) -> Result<(), NoMemory>
-    ensures { IfOk result (λ _. words.new ≡ words.old ++ one (BranchOn 0 true (seen whole.now).depth_trap) ∷ []) }
+/// The branch that leaves for the trap where the test says so.
+fn depth_branch(whole: &Whole) -> Operation
+    ensures { result ≡ BranchOn 0 true (seen whole.now).depth_trap }
 {
-    let leave = Operation::BranchOn {
+    Operation::BranchOn {
         test: 0,
         taken_at_one: true,
         target: whole.sizes.depth_trap,
-    };
-    push_one(alloc, leave, words)
+    }
 }
 
-/// Moves the stack pointer of every cluster down by a frame.
-fn move_down(alloc: Global, whole: &Whole, words: &mut Listed<Word>) -> Result<(), NoMemory>
-    ensures { IfOk result (λ _. words.new ≡ words.old ++ move_stack (seen whole.now) (neg_ℤ (bytes (seen whole.now).frame))) }
+/// The branch and the steps of the stack pointers, as one word.
+fn leave_and_step(alloc: Global, whole: &Whole, step: i32) -> Result<Word, NoMemory>
+    ensures { IfOk result (λ word. word ≡ record { ops = BranchOn 0 true (seen whole.now).depth_trap ∷ stack_steps (seen whole.now) step; idle = 0 }) }
 {
-    let step = bytes(whole.sizes.frame)?;
-    move_stack(alloc, whole, -step, words)
+    let first = [depth_branch(whole)];
+    let ops = stack_steps(alloc, &first, whole.machine.clusters(), step)?;
+    Ok(Word { ops, idle: 0 })
+}
+
+/// Whether a machine has room for a word of steps, and these are done by the next word.
+fn is_at_once(machine: &Machine, word: &Word) -> bool
+    ensures { result ≡ (machine.now.latency_alu == 1) && fits machine.now word.now.ops }
+{
+    machine.latency_alu() == 1 && fits(machine, word)
+}
+
+/// The branch, and the steps of the stack pointers behind it.
+fn leave_then_step(
+    alloc: Global,
+    whole: &Whole,
+    step: i32,
+    words: &mut Listed<Word>,
+) -> Result<(), NoMemory>
+    ensures { IfOk result (λ _. words.new ≡ words.old ++ one (BranchOn 0 true (seen whole.now).depth_trap) ∷ move_stack (seen whole.now) step) }
+{
+    push_one(alloc, depth_branch(whole), words)?;
+    move_stack(alloc, whole, step, words)
+}
+
+/// The step of a stack pointer down by a frame, in bytes.
+fn frame_down(whole: &Whole) -> Result<i32, NoMemory>
+    ensures { IfOk result (λ step. step ≡ neg_ℤ (bytes (seen whole.now).frame)) }
+{
+    let up = bytes(whole.sizes.frame)?;
+    Ok(-up)
+}
+
+/// Leaves for the trap where the test says so, or moves the stack pointer of every cluster down by a frame: in one word where the machine
+/// has room for both and the stack pointers are there by the next word, since nothing reads them at the trap.
+#[tactic(auto, using(crate::proofs::CallSteps::lowers_beside, crate::proofs::CallSteps::lowers_behind))]
+fn leave_or_lower(alloc: Global, whole: &Whole, words: &mut Listed<Word>) -> Result<(), NoMemory>
+    ensures { IfOk result (λ _. words.new ≡ words.old ++ leave_or_lower (seen whole.now)) }
+{
+    let step = frame_down(whole)?;
+    let word = leave_and_step(alloc, whole, step)?;
+    if is_at_once(whole.machine, &word) {
+        words.push(word)?;
+        return Ok(());
+    }
+    leave_then_step(alloc, whole, step, words)
 }
 
 /// The words up to a call: the depth is tested and values are saved, the stack pointers go down, and arguments are passed.
@@ -325,12 +404,9 @@ pub fn push_call(
     ensures { IfOk result (λ _. words.new ≡ words.old ++ call_words (seen whole.now) function place called arguments.now) }
 {
     test_and_save(alloc, whole, function, saved(whole, function, place), words)?;
-    leave_by_depth(alloc, whole, words)?;
-    move_down(alloc, whole, words)?;
+    leave_or_lower(alloc, whole, words)?;
     let passed = parameters(whole, called);
-    pass_all(alloc, whole, function, called, passed, arguments, words)?;
-    let target = entry(whole, called);
-    push_one(alloc, Operation::Call { target }, words)
+    pass_all(alloc, whole, function, called, passed, arguments, words)
 }
 
 /// The words behind a call: the stack pointers go up, the result is taken, and saved values come back.

@@ -2,11 +2,13 @@
 use Rattle.std.proofs.Common.{◌≡◌, ℕ, zero, suc, ◌+◌, true, Option, Some, None, List, [], ◌∷◌, ◌++◌, length, refl, sym, ap, ◌∙◌, arith, length-append}
 use Rattle.vx_flow.specs.declared.graph.Operand.{Operand}
 use Rattle.vx_flow.specs.declared.graph.Operand.TheVariants.{Held as HeldValue, Number as AsNumber, Stack}
-use Rattle.std.specs.Prelude.{neg_ℤ, max, ◌-◌, Bool, false, if◌then◌else◌, slice_get}
+use Rattle.std.specs.Prelude.{neg_ℤ, max, ◌-◌, ◌==◌, ◌&&◌, Bool, false, if◌then◌else◌, slice_get}
 use Rattle.std.specs.List.{list_any}
 use Rattle.vx_base.specs.declared.arithmetic.Code.TheVariants.{ToBranch}
 use Rattle.vx_base.specs.declared.arithmetic.Compare.TheVariants.{Ltu}
-use Rattle.vx_isa.specs.declared.operation.Operation.TheVariants.{BranchOn, Call, Compute, Goto, Halt, Store}
+use Rattle.vx_isa.specs.Fits.{fits}
+use Rattle.vx_isa.specs.declared.operation.Operation.{Operation}
+use Rattle.vx_isa.specs.declared.operation.Operation.TheVariants.{BranchOn, Call, Compute, Goto, Halt}
 use Rattle.vx_isa.specs.declared.operation.Register.{Register}
 use Rattle.vx_isa.specs.declared.operation.Register.TheVariants.{Branch as InBranch}
 use Rattle.vx_isa.specs.declared.operation.Source.TheVariants.{Held, Number}
@@ -18,7 +20,7 @@ use Rattle.vx_mixed.specs.declared.layout.Laid.TheVariants.{Plain, Split}
 use Rattle.vx_mixed.specs.declared.layout.VirtualWord.{VirtualWord}
 use Rattle.vx_mixed.specs.declared.layout.VirtualWord.TheVariants.{Planned, Drain, Transfer, Choice, Call as Calls, Return as Returns, Ends}
 use Rattle.vx_mixed.specs.LaidSettled.{laid_reads, laid_writes}
-use Rattle.vx_target.specs.Target.{Target, answer, bytes, one, set_stack, start_words, stack_on, move_stack, parameters_of, slotted, general_of, branch_of, register_of, is_split, spares, by_way, spared_at, spared, most_spared, flight, time_to, wanted, begin_words, load_slot, store_slot, load_slots, store_slots, if_some, once, pause, settled, if_any, slots_in_flight, before, behind, plan_word, plan_words, past, landing_words, fetch_words, fetched, cluster_of_operand, argument_words, result_words, save_words, reload_words, call_words, back_words, return_words, follows, way, link_words, entry_words, word_words}
+use Rattle.vx_target.specs.Target.{Target, answer, bytes, one, set_stack, start_words, stack_on, stack_steps, move_stack, leave_or_lower, parameters_of, slotted, general_of, branch_of, register_of, is_split, spares, by_way, spared_at, spared, most_spared, flight, time_to, wanted, begin_words, load_slot, store_slot, load_slots, store_slots, if_some, once, pause, settled, if_any, slots_in_flight, before, behind, plan_word, plan_words, past, landing_words, fetch_words, passes, calls_beside, store_or_call, argument_words, result_words, save_words, reload_words, call_words, back_words, return_words, follows, way, link_words, entry_words, word_words}
 use Rattle.vx_target.specs.Placed.{landing_of, item_landings, word_landings, words_of}
 use Rattle.vx_frame.specs.Placing.{Spots, at_spots}
 use Rattle.vx_frame.proofs.Emitting.{words_of_append}
@@ -56,18 +58,26 @@ behind_same T s f items =
     ap (λ n. if_some (slotted T f ws) (pause n ++ store_slots (at_spots T s) f ws (slotted T f ws))) (slots_in_flight_same T s f items)
     ∙ ap (λ z. if_some (slotted T f ws) (pause (slots_in_flight T f items) ++ z)) (store_slots_same T s f ws (slotted T f ws))
 
-abbrev passed : Target → (f g v : ℕ) → Operand → List Word → List Word
-passed T f g v x rest = fetch_words T f T.frame x ++ one (Store (cluster_of_operand T f x) (bytes (T.slot g v)) (stack_on (cluster_of_operand T f x)) (fetched T f x)) ∷ rest
+-- the room for a store beside a call does not depend on where the call leads
+stored_length : (T : Target) (s : Spots) (g : ℕ) (more : List ℕ) (store : Operation) (us ws : List Word) → length us ≡ length ws → length (store_or_call (at_spots T s) g more store us) ≡ length (store_or_call T g more store ws)
+stored_length T s g more store us ws h = by (calls_beside T g more store)
+  where
+    Stored : ℕ → List Word → Bool → List Word
+    Stored q rest b = if b then record { ops = store ∷ Call q ∷ []; idle = 0 } ∷ [] else one store ∷ rest
 
-passed_same : (T : Target) (s : Spots) (f g v : ℕ) (x : Operand) (rest : List Word) → passed (at_spots T s) f g v x rest ≡ passed T f g v x rest
-passed_same T s f g v (HeldValue u) rest = refl
-passed_same T s f g v (AsNumber n) rest = refl
-passed_same T s f g v Stack rest = refl
+    by : (b : Bool) → length (Stored (s.entry g) us b) ≡ length (Stored (T.entry g) ws b)
+    by true = refl
+    by false = ap suc h
 
-argument_same : (T : Target) (s : Spots) (f g : ℕ) (vs : List ℕ) (arguments : List Operand) → argument_words (at_spots T s) f g vs arguments ≡ argument_words T f g vs arguments
-argument_same T s f g [] arguments = refl
-argument_same T s f g (v ∷ vs) [] = refl
-argument_same T s f g (v ∷ vs) (x ∷ arguments) = passed_same T s f g v x (argument_words (at_spots T s) f g vs arguments) ∙ ap (passed T f g v x) (argument_same T s f g vs arguments)
+passed_length : (T : Target) (s : Spots) (f g v : ℕ) (more : List ℕ) (x : Operand) (us ws : List Word) → length us ≡ length ws → length (fetch_words (at_spots T s) f T.frame x ++ store_or_call (at_spots T s) g more (passes (at_spots T s) f g v x) us) ≡ length (fetch_words T f T.frame x ++ store_or_call T g more (passes T f g v x) ws)
+passed_length T s f g v more (HeldValue u) us ws h = len_behind (fetch_words T f T.frame (HeldValue u)) (store_or_call (at_spots T s) g more (passes T f g v (HeldValue u)) us) (store_or_call T g more (passes T f g v (HeldValue u)) ws) (stored_length T s g more (passes T f g v (HeldValue u)) us ws h)
+passed_length T s f g v more (AsNumber n) us ws h = stored_length T s g more (passes T f g v (AsNumber n)) us ws h
+passed_length T s f g v more Stack us ws h = stored_length T s g more (passes T f g v Stack) us ws h
+
+argument_length : (T : Target) (s : Spots) (f g : ℕ) (vs : List ℕ) (arguments : List Operand) → length (argument_words (at_spots T s) f g vs arguments) ≡ length (argument_words T f g vs arguments)
+argument_length T s f g [] arguments = refl
+argument_length T s f g (v ∷ vs) [] = refl
+argument_length T s f g (v ∷ vs) (x ∷ arguments) = passed_length T s f g v vs x (argument_words (at_spots T s) f g vs arguments) (argument_words T f g vs arguments) (argument_length T s f g vs arguments)
 
 result_same : (T : Target) (s : Spots) (f : ℕ) (result : Option ℕ) → result_words (at_spots T s) f result ≡ result_words T f result
 result_same T s f None = refl
@@ -125,13 +135,26 @@ plan_length T s f p items =
     ap length (ap (λ z. z ++ w ∷ behind (at_spots T s) f items) (before_same T s f (laid_reads items)) ∙ ap (λ z. before T f (laid_reads items) ++ w ∷ z) (behind_same T s f items))
     ∙ other_word (before T f (laid_reads items)) (behind T f items) w (plan_word T f p items)
 
+-- the room for a branch does not depend on where it leads
+lower_length : (T : Target) (s : Spots) → length (leave_or_lower (at_spots T s)) ≡ length (leave_or_lower T)
+lower_length T s = by ((T.machine.latency_alu == 1) && fits T.machine (BranchOn 0 true T.depth_trap ∷ Steps))
+  where
+    Steps : List Operation
+    Steps = stack_steps T (neg_ℤ (bytes T.frame))
+
+    Lowers : ℕ → Bool → List Word
+    Lowers q b = if b then record { ops = BranchOn 0 true q ∷ Steps; idle = 0 } ∷ [] else one (BranchOn 0 true q) ∷ move_stack T (neg_ℤ (bytes T.frame))
+
+    by : (b : Bool) → length (Lowers s.depth_trap b) ≡ length (Lowers T.depth_trap b)
+    by true = refl
+    by false = refl
+
 pub call_length : (T : Target) (s : Spots) (f p g : ℕ) (arguments : List Operand) → length (call_words (at_spots T s) f p g arguments) ≡ length (call_words T f p g arguments)
 call_length T s f p g arguments =
     let U = at_spots T s in
-    let tail_of : Target → List Word = λ V. argument_words V f g (parameters_of V g) arguments ++ one (Call (V.entry g)) ∷ [] in
-    let tails : length (tail_of U) ≡ length (tail_of T) = len_both (argument_words U f g (parameters_of T g) arguments) (one (Call (s.entry g)) ∷ []) (argument_words T f g (parameters_of T g) arguments) (one (Call (T.entry g)) ∷ []) (ap length (argument_same T s f g (parameters_of T g) arguments)) refl in
-    let moves : length (move_stack T (neg_ℤ (bytes T.frame)) ++ tail_of U) ≡ length (move_stack T (neg_ℤ (bytes T.frame)) ++ tail_of T) = len_behind (move_stack T (neg_ℤ (bytes T.frame))) (tail_of U) (tail_of T) tails in
-    len_both (settled T (depth_word T ∷ save_words U f (T.saved f p))) (one (BranchOn 0 true s.depth_trap) ∷ (move_stack T (neg_ℤ (bytes T.frame)) ++ tail_of U)) (settled T (depth_word T ∷ save_words T f (T.saved f p))) (one (BranchOn 0 true T.depth_trap) ∷ (move_stack T (neg_ℤ (bytes T.frame)) ++ tail_of T)) (ap (λ z. length (settled T (depth_word T ∷ z))) (store_slots_same T s f (T.saved f p) (T.saved f p))) (ap suc moves)
+    let passed : Target → List Word = λ V. argument_words V f g (parameters_of T g) arguments in
+    let lowers : length (leave_or_lower U ++ passed U) ≡ length (leave_or_lower T ++ passed T) = len_both (leave_or_lower U) (passed U) (leave_or_lower T) (passed T) (lower_length T s) (argument_length T s f g (parameters_of T g) arguments) in
+    len_both (settled T (depth_word T ∷ save_words U f (T.saved f p))) (leave_or_lower U ++ passed U) (settled T (depth_word T ∷ save_words T f (T.saved f p))) (leave_or_lower T ++ passed T) (ap (λ z. length (settled T (depth_word T ∷ z))) (store_slots_same T s f (T.saved f p) (T.saved f p))) lowers
   where
     depth_word : Target → Word
     depth_word V = one (Compute 0 (ToBranch Ltu) (InBranch (record { cluster = 0; number = 0 })) (Held (stack_on 0)) (Number (bytes (V.globals + V.frame))))

@@ -192,10 +192,10 @@ module _ (m : Numbers) (w : WordProgram) (fit : AllFit m w) where
           record { to = a.to; comes = forth_comes u a.to a.forth; place = a.place; quiet = a.quiet; memory = a.memory; registers = a.registers }
 
   module _ (words : ℕ) (size : w.memory ≡ 4 * words) (small : 4 * words < 2 ^ 32) where
-    slot_address : (u : State) (b : GeneralRegister) (p o : ℕ) → register u (General b) ≡ pos (4 * p) → p + o < words → address u b (bytes o) ≡ 4 * (p + o)
+    pub slot_address : (u : State) (b : GeneralRegister) (p o : ℕ) → register u (General b) ≡ pos (4 * p) → p + o < words → address u b (bytes o) ≡ 4 * (p + o)
     slot_address u b p o e lt = ap (λ z. unsigned (sum_of z (bytes o))) e ∙ address_is (4 * p) (4 * o) (omega arith) ∙ omega arith
 
-    slot_word : (u : State) (b : GeneralRegister) (p o : ℕ) → register u (General b) ≡ pos (4 * p) → p + o < words → is_word_of w.memory (address u b (bytes o)) ≡ true
+    pub slot_word : (u : State) (b : GeneralRegister) (p o : ℕ) → register u (General b) ≡ pos (4 * p) → p + o < words → is_word_of w.memory (address u b (bytes o)) ≡ true
     slot_word u b p o e lt = ap (is_word_of w.memory) (slot_address u b p o e lt) ∙ ap (λ n. is_word_of n (4 * (p + o))) size ∙ is_word (p + o) words lt
 
     pub load_step : (u : State) (k : ℕ) (r b : GeneralRegister) (p o : ℕ) → u.flying ≡ [] → slice_get w.words u.place ≡ Some (one (Load k r (bytes o) b false)) → register u (General b) ≡ pos (4 * p) → p + o < words → is_zero (General r) ≡ false → Set u (General r) (word_at u.memory (p + o))

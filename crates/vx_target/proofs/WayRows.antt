@@ -1,20 +1,22 @@
 -- Worked rows: ways from place to place of a layout, and how many cycles a call and its return take on the default machine.
-use Rattle.std.proofs.Common.{◌≡◌, ◌+◌, ℕ, suc, pos, Some, List, [], ◌∷◌, ◌++◌, refl}
+use Rattle.std.proofs.Common.{◌≡◌, ◌+◌, ℕ, suc, pos, neg_ℤ, true, Some, List, [], ◌∷◌, ◌++◌, refl}
 use Rattle.vx_base.specs.declared.outcome.Trap.TheVariants.{Index}
 use Rattle.vx_flow.specs.declared.graph.Bank.TheVariants.{General}
-use Rattle.vx_base.specs.declared.arithmetic.Code.TheVariants.{Mov}
+use Rattle.vx_base.specs.declared.arithmetic.Code.TheVariants.{Add, Mov}
 use Rattle.vx_flow.specs.declared.graph.Op.TheVariants.{Compute}
 use Rattle.vx_flow.specs.declared.graph.Operand.TheVariants.{Held, Number}
-use Rattle.vx_isa.specs.declared.operation.Operation.TheVariants.{Goto, Move, Return as Leaves}
-use Rattle.vx_isa.specs.declared.operation.Source.TheVariants.{Number as Immediate}
+use Rattle.vx_isa.specs.declared.operation.Operation.{Operation}
+use Rattle.vx_isa.specs.declared.operation.Operation.TheVariants.{BranchOn, Call as Calls, Compute as Computes, Goto, Move, Return as Leaves, Store as Stores}
+use Rattle.vx_isa.specs.declared.operation.Register.TheVariants.{General as InGeneral}
+use Rattle.vx_isa.specs.declared.operation.Source.TheVariants.{Held as From, Number as Immediate}
 use Rattle.vx_isa.specs.declared.program.Word.{Word}
 use Rattle.vx_isa.specs.Machine.{cycles_of}
-use Rattle.vx_isa.specs.Numbers.{vex}
+use Rattle.vx_isa.specs.Numbers.{narrow, vex}
 use Rattle.vx_mixed.specs.declared.layout.VirtualWord.{VirtualWord}
 use Rattle.vx_mixed.specs.declared.layout.Laid.TheVariants.{Plain}
 use Rattle.vx_mixed.specs.declared.layout.VirtualWord.TheVariants.{Planned, Drain, Transfer, Call, Return, Ends}
 use Rattle.vx_regs.specs.declared.map.Kept.TheVariants.{InRegister}
-use Rattle.vx_target.specs.Target.{Target, most_transfers, most_spared, answer, past, one, waits, word_words, call_words, back_words, entry_words, return_words}
+use Rattle.vx_target.specs.Target.{Target, most_transfers, most_spared, answer, stack_on, past, one, waits, word_words, argument_words, leave_or_lower, call_words, back_words, entry_words, return_words}
 
 -- three values in registers, of which two are saved round a call, and the first is a parameter; the layout of every function has
 -- these words, and word p of function f begins at place 10 + p
@@ -126,8 +128,42 @@ leaf = laid (Return (Number (pos 0)) ∷ [])
 abbrev caller : Target
 caller = laid (Call 0 [] (Some 2) ∷ Return (Number (pos 0)) ∷ [])
 
-call_lasts : lasts (call_words caller 0 0 0 (Number (pos 7) ∷ [])) ≡ 7
+call_lasts : lasts (call_words caller 0 0 0 (Number (pos 7) ∷ [])) ≡ 5
 call_lasts = refl
+
+-- the only argument is stored in the word of the call, and of two the last one; where there is one slot, before it
+abbrev seven : Operation
+seven = Stores 0 (pos 4) (stack_on 0) (Immediate (pos 7))
+
+abbrev eight : Operation
+eight = Stores 0 (pos 8) (stack_on 0) (Immediate (pos 8))
+
+beside_call : argument_words caller 0 0 (0 ∷ []) (Number (pos 7) ∷ []) ≡ record { ops = seven ∷ Calls 1 ∷ []; idle = 0 } ∷ []
+beside_call = refl
+
+last_beside_call : argument_words caller 0 0 (0 ∷ 1 ∷ []) (Number (pos 7) ∷ Number (pos 8) ∷ []) ≡ one seven ∷ record { ops = eight ∷ Calls 1 ∷ []; idle = 0 } ∷ []
+last_beside_call = refl
+
+before_call : argument_words (record caller { machine = narrow }) 0 0 (0 ∷ []) (Number (pos 7) ∷ []) ≡ one seven ∷ one (Calls 1) ∷ []
+before_call = refl
+
+-- the branch for the depth stands beside the step of the stack pointer, which goes down by the 16 bytes of a frame
+abbrev down_on : ℕ → Operation
+down_on k = Computes k Add (InGeneral (stack_on k)) (From (stack_on k)) (Immediate (neg_ℤ (pos 16)))
+
+beside_branch : leave_or_lower caller ≡ record { ops = BranchOn 0 true 0 ∷ down_on 0 ∷ []; idle = 0 } ∷ []
+beside_branch = refl
+
+-- on two clusters both stack pointers do
+down_on_both : leave_or_lower (record caller { machine = vex 2 }) ≡ record { ops = BranchOn 0 true 0 ∷ down_on 0 ∷ down_on 1 ∷ []; idle = 0 } ∷ []
+down_on_both = refl
+
+-- where there is one slot, or a step takes 2 cycles, the branch stands alone
+behind_branch : leave_or_lower (record caller { machine = narrow }) ≡ one (BranchOn 0 true 0) ∷ one (down_on 0) ∷ []
+behind_branch = refl
+
+slow_behind_branch : leave_or_lower (record caller { machine = record (vex 1) { latency_alu = 2 } }) ≡ one (BranchOn 0 true 0) ∷ one (down_on 0) ∷ waits 1 ∷ []
+slow_behind_branch = refl
 
 leaf_entry_lasts : lasts (entry_words leaf 0) ≡ 3
 unfolding most_transfers most_spared
@@ -180,10 +216,10 @@ unfolding most_transfers most_spared
 another_behind_goto = refl
 
 -- together
-leaf_called : lasts (call_words caller 0 0 0 (Number (pos 7) ∷ []) ++ (entry_words leaf 0 ++ (return_words leaf 0 (Number (pos 0)) ++ back_words caller 0 0 (Some 2)))) ≡ 17
+leaf_called : lasts (call_words caller 0 0 0 (Number (pos 7) ∷ []) ++ (entry_words leaf 0 ++ (return_words leaf 0 (Number (pos 0)) ++ back_words caller 0 0 (Some 2)))) ≡ 15
 unfolding most_transfers most_spared
 leaf_called = refl
 
-caller_called : lasts (call_words caller 0 0 0 (Number (pos 7) ∷ []) ++ (entry_words caller 0 ++ (return_words caller 0 (Number (pos 0)) ++ back_words caller 0 0 (Some 2)))) ≡ 21
+caller_called : lasts (call_words caller 0 0 0 (Number (pos 7) ∷ []) ++ (entry_words caller 0 ++ (return_words caller 0 (Number (pos 0)) ++ back_words caller 0 0 (Some 2)))) ≡ 19
 unfolding most_transfers most_spared
 caller_called = refl

@@ -324,8 +324,11 @@ abbrev pub on_clusters : ℕ → (ℕ → Operation) → List Operation
 on_clusters n op = map op (clusters n)
 
 -- the stack pointer of every cluster so many bytes up or down
+abbrev pub stack_steps : Target → ℤ → List Operation
+stack_steps T z = on_clusters T.machine.clusters (λ k. Compute k Add (InGeneral (stack_on k)) (Held (stack_on k)) (Number z))
+
 abbrev pub move_stack : Target → ℤ → List Word
-move_stack T z = settled T (record { ops = on_clusters T.machine.clusters (λ k. Compute k Add (InGeneral (stack_on k)) (Held (stack_on k)) (Number z)); idle = 0 } ∷ [])
+move_stack T z = settled T (record { ops = stack_steps T z; idle = 0 } ∷ [])
 
 -- saved by their own registers
 abbrev pub save_words : Target → ℕ → List ℕ → List Word
@@ -349,12 +352,26 @@ cluster_of_operand T f (HeldValue v) = home T f v
 cluster_of_operand T f (AsNumber n) = 0
 cluster_of_operand T f Stack = 0
 
--- each argument into the slot of its parameter in the frame of the function that is called, which begins at the stack pointer
+-- an argument into the slot of its parameter in the frame of the function that is called, which begins at the stack pointer
+abbrev pub passes : Target → (function called parameter : ℕ) → Operand → Operation
+passes T f g v a = Store (cluster_of_operand T f a) (bytes (T.slot g v)) (stack_on (cluster_of_operand T f a)) (fetched T f a)
+
+abbrev pub is_none : List ℕ → Bool
+is_none [] = true
+is_none (v ∷ vs) = false
+
+-- the last argument is stored in the word of the call, where the machine has room for both: a store is there by the next word
+abbrev pub calls_beside : Target → (called : ℕ) → (more : List ℕ) → Operation → Bool
+calls_beside T g more store = is_none more && fits T.machine (store ∷ Call (T.entry g) ∷ [])
+
+abbrev pub store_or_call : Target → (called : ℕ) → (more : List ℕ) → Operation → List Word → List Word
+store_or_call T g more store words = if calls_beside T g more store then record { ops = store ∷ Call (T.entry g) ∷ []; idle = 0 } ∷ [] else one store ∷ words
+
+-- each argument to its slot, and the call
 abbrev pub argument_words : Target → (function called : ℕ) → (parameters : List ℕ) → List Operand → List Word
-argument_words T f g [] arguments = []
-argument_words T f g (v ∷ vs) [] = []
-argument_words T f g (v ∷ vs) (a ∷ arguments) =
-    fetch_words T f T.frame a ++ one (Store (cluster_of_operand T f a) (bytes (T.slot g v)) (stack_on (cluster_of_operand T f a)) (fetched T f a)) ∷ argument_words T f g vs arguments
+argument_words T f g [] arguments = one (Call (T.entry g)) ∷ []
+argument_words T f g (v ∷ vs) [] = one (Call (T.entry g)) ∷ []
+argument_words T f g (v ∷ vs) (a ∷ arguments) = fetch_words T f T.frame a ++ store_or_call T g vs (passes T f g v a) (argument_words T f g vs arguments)
 
 -- the result to where it is kept; a result on another cluster goes across first
 abbrev pub result_words : Target → ℕ → Option ℕ → List Word
@@ -364,12 +381,19 @@ result_words T f (Some v) =
     then one (Store 0 (bytes (T.slot f v)) (stack_on 0) (Held answer)) ∷ []
     else settled T (one (Move (home T f v) (general_of T f (v ∷ []) v) (Held answer)) ∷ [])
 
+-- a call leaves for the trap of the depth, or the stack pointers go a frame down: in one word where the machine has room for both and
+-- the stack pointers are there by the next word, since nothing reads them at the trap
+abbrev pub leave_or_lower : Target → List Word
+leave_or_lower T =
+    if (T.machine.latency_alu == 1) && fits T.machine (BranchOn 0 true T.depth_trap ∷ stack_steps T (neg_ℤ (bytes T.frame)))
+    then record { ops = BranchOn 0 true T.depth_trap ∷ stack_steps T (neg_ℤ (bytes T.frame)); idle = 0 } ∷ []
+    else one (BranchOn 0 true T.depth_trap) ∷ move_stack T (neg_ℤ (bytes T.frame))
+
 -- a frame that would begin below the end of the globals is one too many: this is tested while values are saved
 abbrev pub call_words : Target → (function place called : ℕ) → List Operand → List Word
 call_words T f p g arguments =
     settled T (one (Compute 0 (ToBranch Ltu) (InBranch (record { cluster = 0; number = 0 })) (Held (stack_on 0)) (Number (bytes (T.globals + T.frame)))) ∷ save_words T f (T.saved f p))
-    ++ one (BranchOn 0 true T.depth_trap)
-    ∷ (move_stack T (neg_ℤ (bytes T.frame)) ++ (argument_words T f g (parameters_of T g) arguments ++ one (Call (T.entry g)) ∷ []))
+    ++ (leave_or_lower T ++ argument_words T f g (parameters_of T g) arguments)
 
 -- the word of a layout is a call
 abbrev pub is_call_word : VirtualWord → Bool

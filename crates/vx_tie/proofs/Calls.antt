@@ -4,7 +4,7 @@ use Rattle.std.specs.Prelude.{slice_get, if◌then◌else◌, nat_lt, nat_le}
 use Rattle.std.proofs.lemmas.Bool.{lt-ltb, le-ltb, le-leb, lt-leb, leb-true, leb-false, false_from_ne_true}
 use Rattle.std.proofs.lemmas.List.{append-nil}
 use Rattle.vx_base.specs.Arithmetic.{one_if, compare_of, unsigned, wrap, sum_of}
-use Rattle.vx_base.specs.declared.arithmetic.Code.TheVariants.{Add, ToBranch}
+use Rattle.vx_base.specs.declared.arithmetic.Code.TheVariants.{ToBranch}
 use Rattle.vx_base.specs.declared.arithmetic.Compare.TheVariants.{Ltu}
 use Rattle.vx_base.specs.Outcome.{Outcome, Traps, On, Over}
 use Rattle.vx_base.specs.declared.outcome.Trap.TheVariants.{Depth}
@@ -25,23 +25,22 @@ use Rattle.vx_flow.proofs.SoundFlowLaw.{told}
 use Rattle.vx_isa.specs.declared.operation.Register.{Register}
 use Rattle.vx_isa.specs.declared.operation.Register.TheVariants.{General, Branch, Link}
 use Rattle.vx_isa.specs.declared.operation.Source.TheVariants.{Held, Number}
-use Rattle.vx_isa.specs.declared.operation.Operation.{Operation}
-use Rattle.vx_isa.specs.declared.operation.Operation.TheVariants.{Compute, BranchOn, EndByTrap, Call as Jumps}
+use Rattle.vx_isa.specs.declared.operation.Operation.TheVariants.{Compute, EndByTrap}
 use Rattle.vx_isa.specs.declared.program.Word.{Word}
 use Rattle.vx_isa.specs.declared.program.WordProgram.{WordProgram}
-use Rattle.vx_isa.specs.Machine.{State, To, TrapsBy, register, is_one, lead_of, leads_to, unless_stuck, effect, issue, step}
+use Rattle.vx_isa.specs.Machine.{State, TrapsBy, register, is_one, leads_to, unless_stuck, effect, issue, step}
 use Rattle.vx_mixed.specs.declared.layout.VirtualWord.TheVariants.{Call}
 use Rattle.vx_mixed.specs.declared.layout.VWords.{VWords}
 use Rattle.vx_layout.specs.Laid.{laid_program, laid_hop, some_word_hop, laid_body}
 use Rattle.vx_mixed.specs.LaidSettled.{bank_in}
 use Rattle.vx_layout.specs.Origins.{CallsAs}
 use Rattle.vx_regs.specs.Intervals.{IsLive, here, beyond, is_live, result_of}
-use Rattle.vx_target.specs.Target.{Target, answer, kept, is_slotted, is_branch, home, holds_branch, branch_of, stack_on, parameters_of, register_of, one, pause, in_flight, bytes, save_words, move_stack, argument_words, call_words, back_words, memory_words}
+use Rattle.vx_target.specs.Target.{Target, answer, kept, is_slotted, is_branch, home, holds_branch, branch_of, stack_on, parameters_of, register_of, one, pause, in_flight, bytes, save_words, leave_or_lower, argument_words, call_words, back_words, memory_words}
 use Rattle.vx_target.specs.Tied.{Tied, AtWord, Shows, Stacked, IsStack, Seated, Waits, Below, IsResult, stack_from, waiting_above, seat, Itself, is_place, kind_by, kind_of, word_at}
 use Rattle.vx_target.specs.Carried.{Carries, IsFunctionOf, NeedsSlot, is_passed, is_saved, is_spilled, Survives}
 use Rattle.vx_target.specs.Seats.{Seats, is_slot}
 use Rattle.vx_target.proofs.Bytes.{unsigned_small}
-use Rattle.vx_target.proofs.Calm.{seen, AllFit, after, put_at, put_off, not_stuck, effect_is}
+use Rattle.vx_target.proofs.Calm.{seen, AllFit, after, not_stuck, effect_is}
 use Rattle.vx_target.proofs.Proper.{itself, shows_itself}
 use Rattle.vx_target.proofs.Frames.{get_below, get_in, frame_room, link_in_frame, below_keep}
 use Rattle.vx_target.proofs.SeatRoom.{table, framed_from}
@@ -49,17 +48,18 @@ use Rattle.vx_target.proofs.SeatSteps.{seated_on, entered_stack, entered_seated,
 use Rattle.vx_target.proofs.Live.{live_bank}
 use Rattle.vx_target.proofs.Names.{in_register, named, number_at, apart_mixed, not_zero, not_general, not_first_branch}
 use Rattle.vx_target.proofs.FromGraph.{branch_plain, parameter_plain, place_made, whole_bank, has_whole, whole_is}
-use Rattle.vx_tie.proofs.Passing.{CanFetch, OperandAt, OperandsAt, Passed as Given, pass_run}
+use Rattle.vx_tie.proofs.Passing.{CanFetch, OperandAt, OperandsAt, Called as Given, pass_run}
 use Rattle.vx_tie.proofs.Simple.{few_one}
 use Rattle.vx_mixed.specs.Settled.{NoTwice}
 use Rattle.vx_target.proofs.Enough.{some_cluster, some_issue}
-use Rattle.vx_tie.proofs.Moves.{Moved, move_run, down}
+use Rattle.vx_tie.proofs.Moves.{down}
+use Rattle.vx_tie.proofs.Lowering.{Left, Lowered, leave_run, lower_run}
 use Rattle.vx_target.proofs.Slots.{Usable, Stored, as_kept, store_list, stack_no_answer}
 use Rattle.vx_target.proofs.Stands.{word_stands, depth_stands}
 use Rattle.vx_target.proofs.Word.{own_name, kept_shows}
 use Rattle.vx_tie.specs.Planned.{CarriesOn, EndsAlike, CallLaw}
 use Rattle.vx_tie.proofs.PastTransfers.{one_on}
-use Rattle.vx_target.proofs.Steps.{Stands, stands_left, stands_right, Quiet, quiet_on, Comes, Forth, comes_on, then_forth, forth_comes, Set, set_step, Paused, pause_step, word_step}
+use Rattle.vx_target.proofs.Steps.{Stands, stands_left, stands_right, Quiet, quiet_on, Comes, Forth, comes_on, then_forth, forth_comes, Set, set_step, Paused, pause_step}
 
 abbrev is_branch_register : Register → Bool
 is_branch_register (General r) = false
@@ -119,11 +119,11 @@ module _ (T : Target) (flow : Flow) (ls : List VWords) (w : WordProgram) (sound 
   room : Sp + T.frame ≤ memory_words T
   room = frame_room T flow carries.some_frame carries.globals sound Sp (length r.waiting) tied.deep
 
-  abbrev Down : List Word
-  Down = move_stack T (neg_ℤ (bytes T.frame))
+  abbrev Leaves : List Word
+  Leaves = leave_or_lower T
 
   abbrev Passes : List Word
-  Passes = argument_words T F g (parameters_of T g) arguments ++ one (Jumps (T.entry g)) ∷ []
+  Passes = argument_words T F g (parameters_of T g) arguments
 
   abbrev Compares : Word
   Compares = one (Compute 0 (ToBranch Ltu) (Branch (record { cluster = 0; number = 0 })) (Held (stack_on 0)) (Number (bytes (T.globals + T.frame))))
@@ -138,7 +138,7 @@ module _ (T : Target) (flow : Flow) (ls : List VWords) (w : WordProgram) (sound 
   Late = pause Pause
 
   abbrev Branching : List Word
-  Branching = one (BranchOn 0 true T.depth_trap) ∷ (Down ++ Passes)
+  Branching = Leaves ++ Passes
 
   stands_call : Stands w.words u.place (Compares ∷ ((Saves ++ Late) ++ Branching))
   stands_call = stands_left w.words u.place (call_words T F p g arguments) (back_words T F p result) (subst (λ q. Stands w.words q (call_words T F p g arguments ++ back_words T F p result)) (sym at_word.place) (word_stands T flow.main (length flow.functions) w.words carries.placed F p (Call g arguments result) below plan))
@@ -216,14 +216,14 @@ module _ (T : Target) (flow : Flow) (ls : List VWords) (w : WordProgram) (sound 
   paused : Paused T.machine w fit A (A.place + length Late)
   paused = pause_step T.machine w fit A Pause saved.quiet.calm (subst (λ q. Stands w.words q Late) (sym place_a) (stands_right w.words (u.place + 1) Saves Late saving))
 
-  branching : Stands w.words ((u.place + 1) + length (Saves ++ Late)) Branching
-  branching = stands_right w.words (u.place + 1) (Saves ++ Late) Branching stands_call.1
-
   abbrev C : State
   C = paused.to
 
   place_c : C.place ≡ (u.place + 1) + length (Saves ++ Late)
   place_c = let x = paused.place in let y = place_a in let z = length-append Saves Late in omega arith
+
+  branching : Stands w.words C.place Branching
+  branching = subst (λ q. Stands w.words q Branching) (sym place_c) (stands_right w.words (u.place + 1) (Saves ++ Late) Branching stands_call.1)
 
   comes_c : Comes T.machine w fit u C
   comes_c = comes_on T.machine w fit u B C (forth_comes T.machine w fit u B compared.forth) (comes_on T.machine w fit B A C saved.comes paused.comes)
@@ -237,14 +237,11 @@ module _ (T : Target) (flow : Flow) (ls : List VWords) (w : WordProgram) (sound 
   others_c : (q : Register) → (q ≢ Flag) → (q ≢ General answer) → seen C.registers q ≡ seen u.registers q
   others_c q nf na = ap (λ x. seen x q) paused.registers ∙ saved.others q na ∙ compared.others q nf
 
-  abbrev Branches : Word
-  Branches = one (BranchOn 0 true T.depth_trap)
+  leaving : Stands w.words C.place Leaves
+  leaving = stands_left w.words C.place Leaves Passes branching
 
-  branch_at : slice_get w.words C.place ≡ Some Branches
-  branch_at = subst (λ q. slice_get w.words q ≡ Some Branches) (sym place_c) branching.0
-
-  lead_is : lead_of C (BranchOn 0 true T.depth_trap ∷ []) ≡ (if below_limit then To T.depth_trap else To (C.place + 1))
-  lead_is = ap (λ z. if is_one z then To T.depth_trap else To (C.place + 1)) (ap (λ x. seen x Flag) paused.registers ∙ saved.others Flag (λ e. absurd (cc)) ∙ compared.at) ∙ ap (λ b. if b then To T.depth_trap else To (C.place + 1)) (one_of below_limit)
+  tested : is_one (register C Flag) ≡ below_limit
+  tested = ap is_one (ap (λ x. seen x Flag) paused.registers ∙ saved.others Flag (λ e. absurd (cc)) ∙ compared.at) ∙ one_of below_limit
 
   -- where one more function may be active, the frame of the next one is there
 
@@ -268,41 +265,26 @@ module _ (T : Target) (flow : Flow) (ls : List VWords) (w : WordProgram) (sound 
     unfolding below_limit
     not_below = let d = enough in le-ltb (4 * Sp) (4 * (T.globals + T.frame)) (omega arith)
 
-    abbrev D : State
-    D = after w C Branches (C.place + 1)
-
-    falls : Forth T.machine w fit C D
-    falls = word_step T.machine w fit C Branches (C.place + 1) quiet_c.calm branch_at (record { addresses = refl; input = refl }) (lead_is ∙ ap (λ b. if b then To T.depth_trap else To (C.place + 1)) not_below)
-
-    abbrev op : ℕ → Operation
-    op k = Compute k Add (General (stack_on k)) (Held (stack_on k)) (Number (neg_ℤ (bytes T.frame)))
-
-    abbrev Lower : ℕ → ℤ
-    Lower k = sum_of (register D (General (stack_on k))) (neg_ℤ (bytes T.frame))
-
-    go_down : Stands w.words D.place (Down ++ Passes)
-    go_down = subst (λ q. Stands w.words q (Down ++ Passes)) (ap (λ q. q + 1) (sym place_c)) branching.1
-
-    moved : Moved T.machine w fit D op Lower (λ k. refl) (λ k. refl) (λ k. record { bad = refl; takes = refl; prints = refl; stores = λ m. refl; leads = λ ops. refl }) T.machine.clusters
-    moved = move_run T.machine w fit D op Lower (λ k. refl) (λ k. refl) (λ k. record { bad = refl; takes = refl; prints = refl; stores = λ m. refl; leads = λ ops. refl }) T.machine.clusters refl (stands_left w.words D.place Down Passes go_down)
+    lowered : Lowered T w fit C quiet_c.calm (length Leaves)
+    lowered = lower_run T w fit C quiet_c.calm leaving (tested ∙ not_below)
 
     abbrev E : State
-    E = moved.to
+    E = lowered.to
 
-    stack_d : (k : ℕ) → k < T.machine.clusters → register D (General (stack_on k)) ≡ pos (4 * Sp)
-    stack_d k lt = others_c (General (stack_on k)) (λ e. absurd (cc)) (stack_no_answer k) ∙ tied.stack k lt
+    stack_c : (k : ℕ) → k < T.machine.clusters → register C (General (stack_on k)) ≡ pos (4 * Sp)
+    stack_c k lt = others_c (General (stack_on k)) (λ e. absurd (cc)) (stack_no_answer k) ∙ tied.stack k lt
 
     stack_e : (k : ℕ) → k < T.machine.clusters → register E (General (stack_on k)) ≡ pos (4 * Base)
-    stack_e k lt = moved.stack k lt ∙ ap (λ z. sum_of z (neg_ℤ (bytes T.frame))) (stack_d k lt) ∙ down Sp Base T.frame base_is (let c = carries.small in let x = room in omega arith)
+    stack_e k lt = lowered.stack k lt ∙ ap (λ z. sum_of z (neg_ℤ (bytes T.frame))) (stack_c k lt) ∙ down Sp Base T.frame base_is (let c = carries.small in let x = room in omega arith)
 
     comes_e : Comes T.machine w fit u E
-    comes_e = comes_on T.machine w fit u C E comes_c (comes_on T.machine w fit C D E (forth_comes T.machine w fit C D falls) (forth_comes T.machine w fit D E moved.forth))
+    comes_e = comes_on T.machine w fit u C E comes_c (forth_comes T.machine w fit C E lowered.forth)
 
     memory_e : E.memory ≡ A.memory
-    memory_e = moved.memory ∙ memory_c
+    memory_e = lowered.memory ∙ memory_c
 
     others_e : (q : Register) → (q ≢ Flag) → (q ≢ General answer) → ((k : ℕ) → q ≢ General (stack_on k)) → seen E.registers q ≡ seen u.registers q
-    others_e q nf na ns = moved.others q ns ∙ others_c q nf na
+    others_e q nf na ns = lowered.others q ns ∙ others_c q nf na
 
     -- the arguments
 
@@ -400,48 +382,34 @@ module _ (T : Target) (flow : Flow) (ls : List VWords) (w : WordProgram) (sound 
       Parameters = parameters_of T g
 
       passing : Stands w.words E.place Passes
-      passing = subst (λ q. Stands w.words q Passes) (sym moved.place) (stands_right w.words D.place Down Passes go_down)
+      passing = subst (λ q. Stands w.words q Passes) (sym lowered.place) (stands_right w.words C.place Leaves Passes branching)
 
-      passed : Given T.machine w fit T F Base carries.memory small some E g Parameters ns (length (argument_words T F g Parameters arguments))
-      passed = pass_run T.machine w fit T F Base carries.memory small some g Parameters arguments ns E moved.quiet.calm stack_e (stands_left w.words E.place (argument_words T F g Parameters arguments) (one (Jumps (T.entry g)) ∷ []) passing)
+      passed : Given T.machine w fit T F Base carries.memory small some E g Parameters ns (length Passes)
+      passed = pass_run T.machine w fit T F Base carries.memory small some g Parameters arguments ns E lowered.quiet.calm stack_e passing
           (operands_from arguments ns (λ x i. i) are)
           (λ x y i j sx sy. apart_mixed T F of.mapped (x ∷ []) (y ∷ []) x y (its_bank x i) (few_one T F of.mapped y (some_issue T.machine carries.machine)) (inl refl) sx sy)
           (λ v i. let a = its.framed.slot_to v (is_passed i) in let b = room in let c = base_is in omega arith)
           (λ v i. its.framed.slot_to v (is_passed i)) (λ x y i j e. its.framed.slots x y (is_passed i) (is_passed j) e)
           (no_twice Parameters (λ i j v lt a b. sound.parameters (T.graph g) i j v (get_in flow.functions g (T.graph g) its.is.graph) lt a b))
 
-      abbrev P : State
-      P = passed.to
-
-      abbrev Jump : Word
-      Jump = one (Jumps (T.entry g))
-
-      jump_at : slice_get w.words P.place ≡ Some Jump
-      jump_at = subst (λ q. slice_get w.words q ≡ Some Jump) (sym passed.place) (stands_right w.words E.place (argument_words T F g Parameters arguments) (Jump ∷ []) passing).0
-
       abbrev G : State
-      G = after w P Jump (T.entry g)
+      G = passed.to
 
       forth_g : Forth T.machine w fit u G
-      forth_g = then_forth T.machine w fit u P G (comes_on T.machine w fit u E P comes_e passed.comes) (word_step T.machine w fit P Jump (T.entry g) passed.quiet.calm jump_at (record { addresses = refl; input = refl }) refl)
+      forth_g = then_forth T.machine w fit u E G comes_e passed.forth
 
-      back_is : P.place + 1 ≡ T.back F p
+      back_is : E.place + length Passes ≡ T.back F p
       back_is =
-          let a = passed.place in
           let c = place_c in
-          let d : E.place ≡ D.place + length Down = moved.place in
+          let d : E.place ≡ C.place + length Leaves = lowered.place in
           let e : T.back F p ≡ T.starts F p + suc (length ((Saves ++ Late) ++ Branching)) = carries.placed.backs F p g arguments result plan in
           let h = at_word.place in
-          let l1 : length ((Saves ++ Late) ++ Branching) ≡ length (Saves ++ Late) + suc (length (Down ++ Passes)) = length-append (Saves ++ Late) Branching in
-          let l2 : length Passes ≡ length (argument_words T F g Parameters arguments) + 1 = length-append (argument_words T F g Parameters arguments) (Jump ∷ []) in
-          let l3 : length (Down ++ Passes) ≡ length Down + length Passes = length-append Down Passes in
+          let l1 : length ((Saves ++ Late) ++ Branching) ≡ length (Saves ++ Late) + length (Leaves ++ Passes) = length-append (Saves ++ Late) Branching in
+          let l3 : length (Leaves ++ Passes) ≡ length Leaves + length Passes = length-append Leaves Passes in
           omega arith
 
       link_is : G.registers Link ≡ wrap (pos (T.back F p))
-      link_is = put_at Link (wrap (pos (P.place + 1))) P.registers refl ∙ ap (λ n. wrap (pos n)) back_is
-
-      stack_g : (k : ℕ) → k < T.machine.clusters → register G (General (stack_on k)) ≡ pos (4 * Base)
-      stack_g k lt = put_off Link (wrap (pos (P.place + 1))) P.registers (General (stack_on k)) (λ e. absurd (cc)) ∙ passed.stack k lt
+      link_is = passed.link ∙ ap (λ n. wrap (pos n)) back_is
 
       -- memory
 
@@ -573,16 +541,16 @@ module _ (T : Target) (flow : Flow) (ls : List VWords) (w : WordProgram) (sound 
         tied = record {
           sp = Base;
           is = its.is;
-          calm = refl;
+          calm = passed.quiet.calm;
           deep = record { is = (let e = tied.deep.is in let b = base_is in let k : ℕ = length r.waiting in let m : T.frame * suc (suc k) ≡ T.frame * suc k + T.frame = grind arith in omega arith); most = more };
-          stack = stack_g;
-          at = inl (record { block = refl; place = refl; values = passed_values; link = link_is ∙ (let q : suc p - 1 ≡ p = omega arith in ap (λ n. wrap (pos (T.back F n))) (sym q)) });
+          stack = passed.stack;
+          at = inl (record { block = refl; place = passed.place; values = passed_values; link = link_is ∙ (let q : suc p - 1 ≡ p = omega arith in ap (λ n. wrap (pos (T.back F n))) (sym q)) });
           passed = refl;
           stacked = subst (λ x. IsStack T flow ls Base (length Rows) (Above x)) (sym base_is) stacked;
           seated = subst (λ x. Seated T flow.globals (Above x) Rows G.memory) (sym base_is) seated;
           below = all_below;
-          input = passed.quiet.input ∙ moved.quiet.input ∙ quiet_c.input ∙ tied.input;
-          out = append-nil P.out ∙ passed.quiet.out ∙ moved.quiet.out ∙ append-nil C.out ∙ quiet_c.out ∙ tied.out;
+          input = passed.quiet.input ∙ lowered.quiet.input ∙ quiet_c.input ∙ tied.input;
+          out = passed.quiet.out ∙ lowered.quiet.out ∙ quiet_c.out ∙ tied.out;
           safe = safe_after (next (laid_program flow ls)) (λ x. x.state.out) 1 r Entered (reach_one (next (laid_program flow ls)) r Entered steps) tied.safe;
         };
       }
@@ -602,30 +570,30 @@ module _ (T : Target) (flow : Flow) (ls : List VWords) (w : WordProgram) (sound 
     unfolding below_limit
     is_below = let d = at_globals in let f = carries.some_frame in lt-ltb (4 * Sp) (4 * (T.globals + T.frame)) (omega arith)
 
-    abbrev Trapped : State
-    Trapped = after w C Branches T.depth_trap
+    left : Left T w fit C quiet_c.calm
+    left = leave_run T w fit C quiet_c.calm leaving (tested ∙ is_below)
 
-    jumps : Forth T.machine w fit C Trapped
-    jumps = word_step T.machine w fit C Branches T.depth_trap quiet_c.calm branch_at (record { addresses = refl; input = refl }) (lead_is ∙ ap (λ b. if b then To T.depth_trap else To (C.place + 1)) is_below)
+    abbrev Trapped : State
+    Trapped = left.to
 
     all_the_way : Forth T.machine w fit u Trapped
-    all_the_way = then_forth T.machine w fit u C Trapped comes_c jumps
+    all_the_way = then_forth T.machine w fit u C Trapped comes_c left.forth
 
     abbrev Trapping : Word
     Trapping = one (EndByTrap Depth)
 
-    trap_at : slice_get w.words T.depth_trap ≡ Some Trapping
-    trap_at = (depth_stands T flow.main (length flow.functions) w.words carries.placed).0
+    trap_at : slice_get w.words Trapped.place ≡ Some Trapping
+    trap_at = ap (λ q. slice_get w.words q) left.place ∙ (depth_stands T flow.main (length flow.functions) w.words carries.placed).0
 
     ends : step T.machine (1 ∷ []) w Trapped ≡ Over (Traps Depth (after w Trapped Trapping Trapped.place).out)
     ends =
-        let f = fit T.depth_trap Trapping trap_at in
+        let f = fit Trapped.place Trapping trap_at in
         ap (issue T.machine (1 ∷ []) w Trapped) trap_at
         ∙ ap (λ why. unless_stuck why Trapped (leads_to (TrapsBy Depth) (effect T.machine (1 ∷ []) w Trapped Trapping))) (not_stuck T.machine w Trapped Trapping f.0 f.1 (record { addresses = refl; input = refl }))
-        ∙ ap (λ t. leads_to (TrapsBy Depth) t) (effect_is T.machine w Trapped Trapping refl)
+        ∙ ap (λ t. leads_to (TrapsBy Depth) t) (effect_is T.machine w Trapped Trapping left.quiet.calm)
 
     out_is : (after w Trapped Trapping Trapped.place).out ≡ S.out
-    out_is = append-nil Trapped.out ∙ append-nil C.out ∙ quiet_c.out ∙ tied.out
+    out_is = append-nil Trapped.out ∙ left.quiet.out ∙ quiet_c.out ∙ tied.out
 
     is_full : nat_le deepest (length r.waiting + 1) ≡ true
     is_full = le-leb deepest (length r.waiting + 1) (omega arith)

@@ -20,11 +20,11 @@ use Rattle.vx_isa.specs.declared.operation.Operation.TheVariants.{Compute, Move,
 use Rattle.vx_isa.specs.declared.program.Word.{Word}
 use Rattle.vx_isa.specs.Fits.{destinations, fits}
 use Rattle.vx_isa.specs.Operations.{same, latency_of}
-use Rattle.vx_target.specs.Target.{Target, answer, general, general_of, branch_of, register_of, stack_on, home, holds_branch, is_slotted, kept, parameters_of, one, together, pause, latest, in_flight, settled, load_slot, on_clusters, move_stack, fetch_words, fetched, cluster_of_operand, argument_words, save_words, result_words, call_words, is_caller, answer_words, last_beside, leave_words, return_words, start_words, bytes, first_frame}
+use Rattle.vx_target.specs.Target.{Target, answer, general, general_of, branch_of, register_of, stack_on, home, holds_branch, is_slotted, kept, parameters_of, one, together, pause, latest, in_flight, settled, load_slot, on_clusters, move_stack, leave_or_lower, fetch_words, fetched, cluster_of_operand, passes, calls_beside, store_or_call, argument_words, save_words, result_words, call_words, is_caller, answer_words, last_beside, leave_words, return_words, start_words, bytes, first_frame}
 use Rattle.vx_tie.proofs.Early.{falls, Jumps, Touches, hits}
 use Rattle.vx_target.proofs.Pauses.{flight_append, flight_pause}
 use Rattle.vx_tie.proofs.SaveHeats.{tested, saves_late}
-use Rattle.vx_tie.proofs.Heats.{lift, raised_bound, stays, FineWords, word_fine, wait_fine, stop_fine}
+use Rattle.vx_tie.proofs.Heats.{lift, lift_most, raised_bound, stays, FineWords, word_fine, wait_fine, stop_fine}
 
 module _ (T : Target) (heat : ℕ → Register → ℕ) where
   abbrev pub Fine : (Register → ℕ) → List Word → (Register → ℕ) → Type 0
@@ -103,13 +103,14 @@ module _ (T : Target) (heat : ℕ → Register → ℕ) where
   fetch_fine f up (AsNumber n) rest e more = more
   fetch_fine f up Stack rest e more = more
 
-  pub arguments_fine : (f g : ℕ) (vs : List ℕ) (xs : List Operand) (rest : List Word) (e : Register → ℕ) → Fine cold rest e → Fine cold (argument_words T f g vs xs ++ rest) e
-  arguments_fine f g [] xs rest e more = more
-  arguments_fine f g (v ∷ vs) [] rest e more = more
-  arguments_fine f g (v ∷ vs) (x ∷ xs) rest e more =
-      let last : Word = one (Store (cluster_of_operand T f x) (bytes (T.slot g v)) (stack_on (cluster_of_operand T f x)) (fetched T f x)) in
-      subst (λ ws. Fine cold ws e) (sym (append_assoc (fetch_words T f T.frame x) (last ∷ argument_words T f g vs xs) rest))
-      (fetch_fine f T.frame x (last ∷ (argument_words T f g vs xs ++ rest)) e (store_fine (cluster_of_operand T f x) (bytes (T.slot g v)) (stack_on (cluster_of_operand T f x)) (fetched T f x) (argument_words T f g vs xs ++ rest) e (arguments_fine f g vs xs rest e more)))
+  pub arguments_fine : (f g : ℕ) (vs : List ℕ) (xs : List Operand) (e : Register → ℕ) → Fine cold (argument_words T f g vs xs) e
+  arguments_fine f g [] xs e = call_fine (T.entry g) [] e (nothing_fine e)
+  arguments_fine f g (v ∷ vs) [] e = call_fine (T.entry g) [] e (nothing_fine e)
+  arguments_fine f g (v ∷ vs) (x ∷ xs) e = fetch_fine f T.frame x (store_or_call T g vs (passes T f g v x) (argument_words T f g vs xs)) e (by (calls_beside T g vs (passes T f g v x)) (arguments_fine f g vs xs e))
+    where
+      by : (b : Bool) → Fine cold (argument_words T f g vs xs) e → Fine cold (if b then record { ops = passes T f g v x ∷ Call (T.entry g) ∷ []; idle = 0 } ∷ [] else one (passes T f g v x) ∷ argument_words T f g vs xs) e
+      by true h = stop_fine T.machine heat cold (passes T f g v x ∷ Call (T.entry g) ∷ []) [] e refl (λ p r j. omega arith) refl (λ r t. refl) (nothing_fine e)
+      by false h = store_fine (cluster_of_operand T f x) (bytes (T.slot g v)) (stack_on (cluster_of_operand T f x)) (fetched T f x) (argument_words T f g vs xs) e h
 
   pub result_fine : (f : ℕ) (result : Option ℕ) (rest : List Word) (e : Register → ℕ) → Fine cold rest e → Fine cold (result_words T f result ++ rest) e
   result_fine f None rest e more = more
@@ -134,6 +135,33 @@ module _ (T : Target) (heat : ℕ → Register → ℕ) where
       let g : ℕ → Operation = λ k. Compute k Add (InGeneral (stack_on k)) (Held (stack_on k)) (Number z) in
       settle (on_clusters T.machine.clusters g) rest e (spread_falls g (λ k ops. refl) 0 T.machine.clusters) (λ q j. spread_jumps g (λ k q ops x. x) 0 T.machine.clusters q j) more
 
+  -- and those that leave by the depth before, or in one word with it
+
+  latest_spread : (g : ℕ → Operation) (l : ℕ) → ((k : ℕ) → latency_of T.machine (g k) ≡ l) → (j n : ℕ) → latest T.machine (map g (numbers j n)) ≤ l
+  latest_spread g l h j zero = omega arith
+  latest_spread g l h j (suc n) = let a = h j in let b = latest_spread g l h (j + 1) n in omega arith
+
+  lower_fine : (rest : List Word) (e : Register → ℕ) → Fine cold rest e → Fine cold (leave_or_lower T ++ rest) e
+  lower_fine rest e more = by ((T.machine.latency_alu == 1) && fits T.machine Beside) refl
+    where
+      g : ℕ → Operation
+      g k = Compute k Add (InGeneral (stack_on k)) (Held (stack_on k)) (Number (neg_ℤ (bytes T.frame)))
+
+      Beside : List Operation
+      Beside = BranchOn 0 true T.depth_trap ∷ on_clusters T.machine.clusters g
+
+      by : (b : Bool) → ((T.machine.latency_alu == 1) && fits T.machine Beside) ≡ b → Fine cold ((if b then record { ops = Beside; idle = 0 } ∷ [] else one (BranchOn 0 true T.depth_trap) ∷ move_stack T (neg_ℤ (bytes T.frame))) ++ rest) e
+      by true t =
+          let once : T.machine.latency_alu ≡ 1 = eqb-true T.machine.latency_alu 1 (and_parts _ _ t).0 in
+          let short : latest T.machine (on_clusters T.machine.clusters g) ≤ 1 = latest_spread g 1 (λ k. once) 0 T.machine.clusters in
+          let whole : latest T.machine Beside ≡ max 0 (latest T.machine (on_clusters T.machine.clusters g)) = refl in
+          let n : ℕ = max 0 (latest T.machine Beside) - 1 in
+          let none : n ≤ 0 = omega arith in
+          word_fine T.machine heat 0 cold cold [] Beside rest e (spread_falls g (λ k ops. refl) 0 T.machine.clusters) (stays 1 cold)
+          (λ q r j. (let a : lift n cold (destinations Beside ++ []) r ≤ max 0 n = lift_most n cold (destinations Beside ++ []) r in omega arith)) (λ r t. refl)
+          (wait_fine T.machine heat n 0 cold cold (destinations Beside ++ []) rest e none (stays 0 cold) more)
+      by false t = branch_fine 0 T.depth_trap true (move_stack T (neg_ℤ (bytes T.frame)) ++ rest) e (move_fine (neg_ℤ (bytes T.frame)) rest e more)
+
   -- pieces
 
   pub start_fine : (main : ℕ) (e : Register → ℕ) → Fine cold (start_words T main) e
@@ -146,18 +174,15 @@ module _ (T : Target) (heat : ℕ → Register → ℕ) where
   -- the depth is tested while values are saved, which are in other registers than the test
   pub call_words_fine : (f p g : ℕ) (xs : List Operand) (e : Register → ℕ) → ((v : ℕ) → IsIn v (T.saved f p) → register_of T f (T.saved f p) v ≢ tested) → Fine cold (call_words T f p g xs) e
   call_words_fine f p g xs e others =
-      let w3 : List Word = argument_words T f g (parameters_of T g) xs ++ one (Call (T.entry g)) ∷ [] in
-      let w2 : List Word = move_stack T (neg_ℤ (bytes T.frame)) ++ w3 in
-      let w1 : List Word = one (BranchOn 0 true T.depth_trap) ∷ w2 in
+      let w3 : List Word = argument_words T f g (parameters_of T g) xs in
+      let w1 : List Word = leave_or_lower T ++ w3 in
       let test : Operation = Compute 0 (ToBranch Ltu) (InBranch (record { cluster = 0; number = 0 })) (Held (stack_on 0)) (Number (bytes (T.globals + T.frame))) in
       let saves : List Word = save_words T f (T.saved f p) in
       let t : ℕ = max 0 (latest T.machine (test ∷ [])) - 1 in
       subst (λ ws. Fine cold (one test ∷ ws) e) (sym (append_assoc saves (pause (in_flight T.machine t saves)) w1))
       (word_fine T.machine heat 0 cold cold [] (test ∷ []) (saves ++ (pause (in_flight T.machine t saves) ++ w1)) e refl (stays 1 cold) (λ q r j. absurd j) (λ r t. refl)
       (saves_late T heat f (T.saved f p) t (T.saved f p) w1 e others
-      (branch_fine 0 T.depth_trap true w2 e
-      (move_fine (neg_ℤ (bytes T.frame)) w3 e
-      (arguments_fine f g (parameters_of T g) xs (one (Call (T.entry g)) ∷ []) e (call_fine (T.entry g) [] e (nothing_fine e)))))))
+      (lower_fine w3 e (arguments_fine f g (parameters_of T g) xs e))))
 
   -- the link is loaded while the answer may be in flight
   one_by_one : (f : ℕ) (x : Operand) (rest : List Word) (e : Register → ℕ) → Fine cold rest e → Fine cold ((settled T (one (Move 0 answer (fetched T f x)) ∷ one (Load 0 (general 0 3) (pos 0) (stack_on 0) false) ∷ []) ++ settled T (one (ToLink (Held (general 0 3))) ∷ [])) ++ rest) e

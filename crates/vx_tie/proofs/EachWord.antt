@@ -29,11 +29,11 @@ use Rattle.vx_mixed.specs.LaidSettled.{laid_reads, laid_writes}
 use Rattle.vx_regs.specs.declared.map.Kept.{Kept}
 use Rattle.vx_regs.specs.declared.map.Kept.TheVariants.{InRegister, InSlot, Nowhere}
 use Rattle.vx_regs.specs.Intervals.{is_named, word_reads, word_writes}
-use Rattle.vx_target.specs.Target.{Target, answer, general, general_of, branch_of, number_by, scratch, stack_on, holds_branch, is_slotted, kept, slotted, once, parameters_of, one, together, pause, in_flight, settled, set_stack, slots_in_flight, load_slot, store_slot, load_slots, store_slots, if_some, before, behind, plan_word, plan_words, past_there, past_from, most_transfers, past, landing_words, on_clusters, move_stack, save_words, reload_words, fetch_words, fetched, cluster_of_operand, argument_words, result_words, call_words, back_words, is_caller, answer_words, last_beside, leave_words, return_words, follows, way, link_words, begin_words, wanted, entry_words, turns, idle_words, word_words, start_words, waits, bytes, first_frame}
+use Rattle.vx_target.specs.Target.{Target, answer, general, general_of, branch_of, number_by, scratch, stack_on, holds_branch, is_slotted, kept, slotted, once, parameters_of, one, together, pause, in_flight, settled, set_stack, slots_in_flight, load_slot, store_slot, load_slots, store_slots, if_some, before, behind, plan_word, plan_words, past_there, past_from, most_transfers, past, landing_words, on_clusters, stack_steps, move_stack, leave_or_lower, save_words, reload_words, fetch_words, fetched, cluster_of_operand, passes, calls_beside, store_or_call, argument_words, result_words, call_words, back_words, is_caller, answer_words, last_beside, leave_words, return_words, follows, way, link_words, begin_words, wanted, entry_words, turns, idle_words, word_words, start_words, waits, bytes, first_frame}
 use Rattle.vx_target.specs.Placed.{Depth, Labelled, PlacedAt, place_of, laid_pieces, landing_of, item_landings, word_landings, landing_pieces, function_pieces, functions_pieces, all_pieces, words_of}
 use Rattle.vx_target.specs.Carried.{Carries, IsFunctionOf, IsMapped, NeedsSlot, is_passed, is_spilled, is_saved}
 use Rattle.vx_target.specs.Places.{plan_place}
-use Rattle.vx_tie.specs.Plans.{AreSpaced, IsSpaced, LeavesAt, at_once, by_empty, IsEntrance, at_entry, by_transfer, by_choice, IsBranchOf, IsInStart, IsInEntry, IsInCall, IsInReturn, IsOther, loads_slot, stores_slot, picks_number, tests_number, moves, tests_depth, leaves_by_depth, moves_stacks, calls, takes_link, stores_link, loads_link, moves_and_loads_link, gives_link, returns, moves_and_returns, sets_stacks, calls_first, halts, traps, traps_depth, idles, goes, branches, goes_out}
+use Rattle.vx_tie.specs.Plans.{AreSpaced, IsSpaced, LeavesAt, at_once, by_empty, IsEntrance, at_entry, by_transfer, by_choice, IsBranchOf, IsInStart, IsInEntry, IsInCall, IsInReturn, IsOther, loads_slot, stores_slot, picks_number, tests_number, moves, tests_depth, leaves_by_depth, leaves_or_lowers, moves_stacks, calls, stores_slot_and_calls, takes_link, stores_link, loads_link, moves_and_loads_link, gives_link, returns, moves_and_returns, sets_stacks, calls_first, halts, traps, traps_depth, idles, goes, branches, goes_out}
 use Rattle.vx_target.proofs.FromPlace.{StandFrom, stand_here, stand_on, stand_from_start}
 use Rattle.vx_target.proofs.Enough.{in_all_of}
 use Rattle.vx_target.proofs.Frames.{get_below, get_in, past_keeps}
@@ -246,6 +246,13 @@ module _ (T : Target) (flow : Flow) (ls : List VWords) (w : WordProgram) (sound 
       move_stack_other : (z : ℤ) → (z ≡ bytes T.frame) ⊎ (z ≡ neg_ℤ (bytes T.frame)) → Everywhere (IsInCall T Count) → Words (move_stack T z)
       move_stack_other z h call = settled_other (record { ops = on_clusters T.machine.clusters (λ k. Compute k Add (InGeneral (stack_on k)) (Held (stack_on k)) (Number z)); idle = 0 } ∷ []) ((λ q a b. moves_stacks z h (call q a b)), tt)
 
+      lower_other : Everywhere (IsInCall T Count) → Words (leave_or_lower T)
+      lower_other call = by ((T.machine.latency_alu == 1) && fits T.machine (BranchOn 0 true T.depth_trap ∷ stack_steps T (neg_ℤ (bytes T.frame))))
+        where
+          by : (b : Bool) → Words (if b then record { ops = BranchOn 0 true T.depth_trap ∷ stack_steps T (neg_ℤ (bytes T.frame)); idle = 0 } ∷ [] else one (BranchOn 0 true T.depth_trap) ∷ move_stack T (neg_ℤ (bytes T.frame)))
+          by true = ((λ q a b. leaves_or_lowers (call q a b)), tt)
+          by false = ((λ q a b. leaves_by_depth (call q a b)), move_stack_other (neg_ℤ (bytes T.frame)) (inr refl) call)
+
       start_other : Everywhere (IsInStart T) → Words (start_words T f)
       start_other start = append (set_stack T) (one (Call (T.entry f)) ∷ one (Halt (Held answer)) ∷ [])
           (settled_other (record { ops = on_clusters T.machine.clusters (λ k. Move k (stack_on k) (Number (bytes (first_frame T)))); idle = 0 } ∷ []) ((λ q a b. sets_stacks (start q a b)), tt))
@@ -311,13 +318,20 @@ module _ (T : Target) (flow : Flow) (ls : List VWords) (w : WordProgram) (sound 
       fetch_other up (AsNumber z) n h = tt
       fetch_other up Stack n h = tt
 
-      arguments_other : (g : ℕ) (vs : List ℕ) (xs : List Operand) → g < Count → ((v : ℕ) → IsIn v vs → NeedsSlot T g v) → ((x : Operand) → IsIn x xs → Fetches x) → Everywhere (IsInCall T Count) → Words (argument_words T f g vs xs)
-      arguments_other g [] xs below h n call = tt
-      arguments_other g (v ∷ vs) [] below h n call = tt
-      arguments_other g (v ∷ vs) (x ∷ xs) below h n call =
-          append (fetch_words T f T.frame x) (one (Store (cluster_of_operand T f x) (bytes (T.slot g v)) (stack_on (cluster_of_operand T f x)) (fetched T f x)) ∷ argument_words T f g vs xs)
-          (fetch_other T.frame x (n x (inl refl)) (λ q a b. inr (refl, call q a b)))
-          ((λ q a b. stores_slot g v (cluster_of_operand T f x) (fetched T f x) below (h v (inl refl))), arguments_other g vs xs below (λ u i. h u (inr i)) (λ y i. n y (inr i)) call)
+      -- a call of this function may stand at a place, alone and beside a store of its last argument
+      abbrev Calling : ℕ → ℕ → Type 0
+      Calling g q = IsOther T Count q (one (Call (T.entry g))) × ((v k : ℕ) (held : Source) → NeedsSlot T g v → IsOther T Count q (record { ops = Store k (bytes (T.slot g v)) (stack_on k) held ∷ Call (T.entry g) ∷ []; idle = 0 }))
+
+      arguments_other : (g : ℕ) (vs : List ℕ) (xs : List Operand) → g < Count → ((v : ℕ) → IsIn v vs → NeedsSlot T g v) → ((x : Operand) → IsIn x xs → Fetches x) → Everywhere (IsInCall T Count) → Everywhere (Calling g) → Words (argument_words T f g vs xs)
+      arguments_other g [] xs below h n call called = ((λ q a b. (called q a b).0), tt)
+      arguments_other g (v ∷ vs) [] below h n call called = ((λ q a b. (called q a b).0), tt)
+      arguments_other g (v ∷ vs) (x ∷ xs) below h n call called =
+          append (fetch_words T f T.frame x) (store_or_call T g vs (passes T f g v x) (argument_words T f g vs xs)) (fetch_other T.frame x (n x (inl refl)) (λ q a b. inr (refl, call q a b)))
+          (by (calls_beside T g vs (passes T f g v x)) (arguments_other g vs xs below (λ u i. h u (inr i)) (λ y i. n y (inr i)) call called))
+        where
+          by : (b : Bool) → Words (argument_words T f g vs xs) → Words (if b then record { ops = passes T f g v x ∷ Call (T.entry g) ∷ []; idle = 0 } ∷ [] else one (passes T f g v x) ∷ argument_words T f g vs xs)
+          by true r = ((λ q a b. (called q a b).1 v (cluster_of_operand T f x) (fetched T f x) (h v (inl refl))), tt)
+          by false r = ((λ q a b. stores_slot g v (cluster_of_operand T f x) (fetched T f x) below (h v (inl refl))), r)
 
       result_other : (result : Option ℕ) → ((v : ℕ) → result ≡ Some v → IfSlotted v) → Words (result_words T f result)
       result_other None n = tt
@@ -328,17 +342,14 @@ module _ (T : Target) (flow : Flow) (ls : List VWords) (w : WordProgram) (sound 
           by false e = settled_other (one (Move (general_of T f (v ∷ []) v).cluster (general_of T f (v ∷ []) v) (Held answer)) ∷ []) ((λ q a b. moves (general_of T f (v ∷ []) v).cluster (general_of T f (v ∷ []) v) (Held answer)), tt)
 
       call_other : (p g : ℕ) (arguments : List Operand) (result : Option ℕ) → HasWordAt p (Calls g arguments result) → g < Count → ((x : Operand) → IsIn x arguments → Fetches x) → Everywhere (IsInCall T Count) →
-          Everywhere (λ q. IsOther T Count q (one (Call (T.entry g)))) → Words (call_words T f p g arguments)
+          Everywhere (Calling g) → Words (call_words T f p g arguments)
       call_other p g xs result at below n call called =
           let test : Operation = Compute 0 (ToBranch Ltu) (InBranch (record { cluster = 0; number = 0 })) (Held (stack_on 0)) (Number (bytes (T.globals + T.frame))) in
-          let down : List Word = move_stack T (neg_ℤ (bytes T.frame)) in
-          let passes : List Word = argument_words T f g (parameters_of T g) xs in
-          let jumps : List Word = one (Call (T.entry g)) ∷ [] in
-          let leaves : List Word = one (BranchOn 0 true T.depth_trap) ∷ (down ++ (passes ++ jumps)) in
-          let passed : Words (passes ++ jumps) = append passes jumps (arguments_other g (parameters_of T g) xs below (λ v i. is_passed i) n call) (called, tt) in
-          let branched : Words leaves = ((λ q a b. leaves_by_depth (call q a b)), append down (passes ++ jumps) (move_stack_other (neg_ℤ (bytes T.frame)) (inr refl) call) passed) in
+          let passed : List Word = argument_words T f g (parameters_of T g) xs in
+          let lowered : Words (leave_or_lower T ++ passed) = append (leave_or_lower T) passed (lower_other call) (arguments_other g (parameters_of T g) xs below (λ v i. is_passed i) n call called) in
           let saves : List Word = save_words T f (T.saved f p) in
-          append (settled T (one test ∷ saves)) leaves (settled_other (one test ∷ saves) ((λ q a b. tests_depth (call q a b)), store_slots_other (T.saved f p) (T.saved f p) (name_saved p g xs result at) (λ v i. i) (saved_need p g xs result at))) branched
+          append (settled T (one test ∷ saves)) (leave_or_lower T ++ passed)
+          (settled_other (one test ∷ saves) ((λ q a b. tests_depth (call q a b)), store_slots_other (T.saved f p) (T.saved f p) (name_saved p g xs result at) (λ v i. i) (saved_need p g xs result at))) lowered
 
       back_other : (p g : ℕ) (arguments : List Operand) (result : Option ℕ) → HasWordAt p (Calls g arguments result) → ((v : ℕ) → result ≡ Some v → IfSlotted v) → Everywhere (IsInCall T Count) → Words (back_words T f p result)
       back_other p g xs result at n call =
@@ -465,7 +476,7 @@ module _ (T : Target) (flow : Flow) (ls : List VWords) (w : WordProgram) (sound 
         let from : ℕ = T.starts f p in
         let to : ℕ = T.starts f (suc p) in
         between p (Calls g arguments result) e
-        (append from to (call_words T f p g arguments) (back_words T f p result) (call_other from to p g arguments result e (called_below p g arguments result e) fetches here (λ q a b. calls (record { function = f; at = p; called = g; arguments = arguments; result = result; low = lt; calls = e; from = a; to = b }))) (back_other from to p g arguments result e (results result e) here))
+        (append from to (call_words T f p g arguments) (back_words T f p result) (call_other from to p g arguments result e (called_below p g arguments result e) fetches here (λ q a b. (calls (record { function = f; at = p; called = g; arguments = arguments; result = result; low = lt; calls = e; from = a; to = b }), λ v k held need. stores_slot_and_calls (record { function = f; at = p; called = g; arguments = arguments; result = result; low = lt; calls = e; from = a; to = b }) v k held need))) (back_other from to p g arguments result e (results result e) here))
       where
         here : (q : ℕ) → T.starts f p ≤ q → q < T.starts f (suc p) → IsInCall T Count q
         here q a b = record { function = f; at = p; called = g; arguments = arguments; result = result; low = lt; calls = e; from = a; to = b }

@@ -44,7 +44,7 @@ use Rattle.vx_mixed.specs.declared.layout.VirtualWord.TheVariants.{Planned, Drai
 use Rattle.vx_mixed.specs.declared.layout.VWords.{VWords}
 use Rattle.vx_mixed.specs.LaidSettled.{bank_in, laid_reads, laid_writes, Plans}
 use Rattle.vx_regs.specs.Intervals.{IsBusy, is_live, is_named, word_reads, word_writes}
-use Rattle.vx_target.specs.Target.{Target, answer, general, general_of, branch_of, stack_on, home, holds_branch, is_branch, is_slotted, kept, slotted, parameters_of, one, together, waits, pause, in_flight, settled, on_clusters, set_stack, slots_in_flight, load_slot, store_slot, load_slots, store_slots, if_some, once, before, behind, plan_word, plan_words, past, landing_words, move_stack, save_words, reload_words, fetch_words, fetched, cluster_of_operand, argument_words, result_words, call_words, back_words, is_caller, answer_words, last_beside, leave_words, return_words, follows, way, link_words, begin_words, wanted, entry_words, turns, idle_words, word_words, start_words, bytes, first_frame}
+use Rattle.vx_target.specs.Target.{Target, answer, general, general_of, branch_of, stack_on, home, holds_branch, is_branch, is_slotted, kept, slotted, parameters_of, one, together, waits, pause, in_flight, settled, on_clusters, stack_steps, leave_or_lower, set_stack, slots_in_flight, load_slot, store_slot, load_slots, store_slots, if_some, once, before, behind, plan_word, plan_words, past, landing_words, move_stack, save_words, reload_words, fetch_words, fetched, cluster_of_operand, passes, calls_beside, store_or_call, argument_words, result_words, call_words, back_words, is_caller, answer_words, last_beside, leave_words, return_words, follows, way, link_words, begin_words, wanted, entry_words, turns, idle_words, word_words, start_words, bytes, first_frame}
 use Rattle.vx_target.specs.Placed.{Depth, Labelled, laid_pieces, landing_of, item_landings, word_landings, landing_pieces, function_pieces, functions_pieces, all_pieces, words_of}
 use Rattle.vx_target.specs.Carried.{Carries, IsFunctionOf, IsMapped, item_of_laid, WordsFit}
 use Rattle.vx_tie.specs.Fitted.{FitLaw}
@@ -58,7 +58,7 @@ use Rattle.vx_target.proofs.Enough.{few_reads, few_writes, named_busy, in_all_of
 use Rattle.vx_target.proofs.Once.{once_in}
 use Rattle.vx_target.proofs.Word.{slotted_from}
 use Rattle.vx_target.proofs.Limits.{Limits, limits}
-use Rattle.vx_tie.proofs.Limits.{Good, well, empty_good, one_good, spread_good, count_single, count_none}
+use Rattle.vx_tie.proofs.Limits.{Good, well, good_behind, keeps_alone, empty_good, one_good, spread_good, count_single, count_none}
 use Rattle.vx_tie.proofs.Filed.{few_single, few_kept, general_filed, branch_filed}
 use Rattle.vx_tie.proofs.PlanFits.{plan_good}
 
@@ -200,12 +200,22 @@ module _ (T : Target) (flow : Flow) (ls : List VWords) (w : WordProgram) (sound 
   off_port : (k i n : ℕ) → i ≢ k → count_by (takes_read_port k) (InGeneral (stack_on i) ∷ []) ≡ 0
   off_port k i n ne = count_none (takes_read_port k) (InGeneral (stack_on i)) (ap (λ b. b && true && true) (ne_eqb i k ne))
 
+  steps_good : (z : ℤ) → Good M (stack_steps T z)
+  steps_good z = spread_good (λ k. Compute k Add (InGeneral (stack_on k)) (Held (stack_on k)) (Number z)) (λ k. refl) M carries.machine l (λ k. refl) (λ k i ne. off_port k i 0 ne)
+      (λ k. both_true (eqb_self k) (both_true (eqb_self k) refl)) (λ k. refl) (λ k. refl) (λ k. refl) (λ k i. count_single (takes_read_port k) (InGeneral (stack_on i))) (λ k lt. both_true (own k 1 (omega arith) lt) refl)
+
   move_stack_good : (z : ℤ) → Words (move_stack T z)
-  move_stack_good z = settled_good (record { ops = on_clusters M.clusters (λ k. Compute k Add (InGeneral (stack_on k)) (Held (stack_on k)) (Number z)); idle = 0 } ∷ []) (
-    spread_good (λ k. Compute k Add (InGeneral (stack_on k)) (Held (stack_on k)) (Number z)) (λ k. refl) M carries.machine l (λ k. refl) (λ k i ne. off_port k i 0 ne)
-        (λ k. both_true (eqb_self k) (both_true (eqb_self k) refl)) (λ k. refl) (λ k. refl) (λ k. refl) (λ k i. count_single (takes_read_port k) (InGeneral (stack_on i))) (λ k lt. both_true (own k 1 (omega arith) lt) refl),
-    tt,
-  )
+  move_stack_good z = settled_good (record { ops = stack_steps T z; idle = 0 } ∷ []) (steps_good z, tt)
+
+  lower_good : Words (leave_or_lower T)
+  lower_good = by ((T.machine.latency_alu == 1) && fits M Beside) refl
+    where
+      Beside : List Operation
+      Beside = BranchOn 0 true T.depth_trap ∷ stack_steps T (neg_ℤ (bytes T.frame))
+
+      by : (b : Bool) → ((T.machine.latency_alu == 1) && fits M Beside) ≡ b → Words (if b then record { ops = Beside; idle = 0 } ∷ [] else one (BranchOn 0 true T.depth_trap) ∷ move_stack T (neg_ℤ (bytes T.frame)))
+      by true e = (good_behind M (BranchOn 0 true T.depth_trap) (stack_steps T (neg_ℤ (bytes T.frame))) refl refl (steps_good (neg_ℤ (bytes T.frame))) (and_parts _ _ e).1, tt)
+      by false e = (one_good M carries.machine l (BranchOn 0 true T.depth_trap) first refl (both_true first_branch refl) refl, move_stack_good (neg_ℤ (bytes T.frame)))
 
   start_good : (main : ℕ) → Words (start_words T main)
   start_good main = good_append M (set_stack T) (one (Call (T.entry main)) ∷ one (Halt (Held answer)) ∷ []) (settled_good (record { ops = on_clusters M.clusters (λ k. Move k (stack_on k) (Number (bytes (first_frame T)))); idle = 0 } ∷ []) (
@@ -276,12 +286,22 @@ module _ (T : Target) (flow : Flow) (ls : List VWords) (w : WordProgram) (sound 
     pass_good o (AsNumber n) h = store_number o n
     pass_good o Stack h = store_number o (pos 0)
 
+    jump_good : (g : ℕ) → Good M (Call (T.entry g) ∷ [])
+    jump_good g = one_good M carries.machine l (Call (T.entry g)) first refl refl refl
+
     arguments_good : (g : ℕ) (vs : List ℕ) (xs : List Operand) → ((x : Operand) → IsIn x xs → Fetches x) → Words (argument_words T f g vs xs)
-    arguments_good g [] xs h = tt
-    arguments_good g (v ∷ vs) [] h = tt
+    arguments_good g [] xs h = (jump_good g, tt)
+    arguments_good g (v ∷ vs) [] h = (jump_good g, tt)
     arguments_good g (v ∷ vs) (x ∷ xs) h =
-        good_append M (fetch_words T f T.frame x) (one (Store (cluster_of_operand T f x) (bytes (T.slot g v)) (stack_on (cluster_of_operand T f x)) (fetched T f x)) ∷ argument_words T f g vs xs)
-        (fetch_good T.frame x (h x (inl refl))) (pass_good (bytes (T.slot g v)) x (h x (inl refl)), arguments_good g vs xs (λ y i. h y (inr i)))
+        good_append M (fetch_words T f T.frame x) (store_or_call T g vs (passes T f g v x) (argument_words T f g vs xs)) (fetch_good T.frame x (h x (inl refl)))
+        (by (calls_beside T g vs (passes T f g v x)) refl (arguments_good g vs xs (λ y i. h y (inr i))))
+      where
+        put : Good M (passes T f g v x ∷ [])
+        put = pass_good (bytes (T.slot g v)) x (h x (inl refl))
+
+        by : (b : Bool) → calls_beside T g vs (passes T f g v x) ≡ b → Words (argument_words T f g vs xs) → Words (if b then record { ops = passes T f g v x ∷ Call (T.entry g) ∷ []; idle = 0 } ∷ [] else one (passes T f g v x) ∷ argument_words T f g vs xs)
+        by true e r = (well M (passes T f g v x ∷ Call (T.entry g) ∷ []) refl (ap (λ b. b && true) (keeps_alone M (passes T f g v x) put)) (and_parts _ _ e).1, tt)
+        by false e r = (put, r)
 
     result_good : (result : Option ℕ) → ((v : ℕ) → result ≡ Some v → Named f (v ∷ []) v × (holds_branch T f v ≡ false)) → Words (result_words T f result)
     result_good None h = tt
@@ -299,15 +319,11 @@ module _ (T : Target) (flow : Flow) (ls : List VWords) (w : WordProgram) (sound 
     call_good : (p g : ℕ) (xs : List Operand) → ((v : ℕ) → IsIn v (T.saved f p) → Named f (T.saved f p) v) → ((x : Operand) → IsIn x xs → Fetches x) → Words (call_words T f p g xs)
     call_good p g xs saved h =
         let test : Operation = Compute 0 (ToBranch Ltu) (InBranch (record { cluster = 0; number = 0 })) (Held (stack_on 0)) (Number (bytes (T.globals + T.frame))) in
-        let down : List Word = move_stack T (neg_ℤ (bytes T.frame)) in
-        let passes : List Word = argument_words T f g (parameters_of T g) xs in
-        let calls : List Word = one (Call (T.entry g)) ∷ [] in
-        let branches : List Word = one (BranchOn 0 true T.depth_trap) ∷ (down ++ (passes ++ calls)) in
-        let passed : Words (passes ++ calls) = good_append M passes calls (arguments_good g (parameters_of T g) xs h) (one_good M carries.machine l (Call (T.entry g)) first refl refl refl, tt) in
-        let branched : Words branches = (one_good M carries.machine l (BranchOn 0 true T.depth_trap) first refl (both_true first_branch refl) refl, good_append M down (passes ++ calls) (move_stack_good (neg_ℤ (bytes T.frame))) passed) in
+        let passed : List Word = argument_words T f g (parameters_of T g) xs in
+        let lowered : Words (leave_or_lower T ++ passed) = good_append M (leave_or_lower T) passed lower_good (arguments_good g (parameters_of T g) xs h) in
         let saves : List Word = save_words T f (T.saved f p) in
-        good_append M (settled T (one test ∷ saves)) branches
-        (settled_good (one test ∷ saves) (one_good M carries.machine l test first refl (both_true (own 0 1 (omega arith) first) refl) (both_true first_branch refl), save_good (T.saved f p) saved)) branched
+        good_append M (settled T (one test ∷ saves)) (leave_or_lower T ++ passed)
+        (settled_good (one test ∷ saves) (one_good M carries.machine l test first refl (both_true (own 0 1 (omega arith) first) refl) (both_true first_branch refl), save_good (T.saved f p) saved)) lowered
 
     back_good : (p : ℕ) (result : Option ℕ) → ((v : ℕ) → IsIn v (T.saved f p) → Named f (T.saved f p) v) → ((v : ℕ) → result ≡ Some v → Named f (v ∷ []) v × (holds_branch T f v ≡ false)) → Words (back_words T f p result)
     back_good p result saved h =

@@ -25,7 +25,7 @@ use Rattle.vx_mixed.specs.declared.layout.VirtualWord.{VirtualWord}
 use Rattle.vx_mixed.specs.declared.layout.VirtualWord.TheVariants.{Planned, Drain, Transfer, Choice, Call as Calls, Return as Returns, Ends}
 use Rattle.vx_mixed.specs.declared.layout.VWords.{VWords}
 use Rattle.vx_mixed.specs.LaidSettled.{laid_reads, laid_writes}
-use Rattle.vx_target.specs.Target.{Target, answer, general, general_of, branch_of, home, stack_on, holds_branch, is_slotted, kept, slotted, once, parameters_of, one, together, pause, in_flight, settled, set_stack, slots_in_flight, load_slot, store_slot, load_slots, store_slots, if_some, before, behind, plan_word, plan_words, past, landing_words, on_clusters, move_stack, save_words, reload_words, fetch_words, fetched, cluster_of_operand, argument_words, result_words, call_words, back_words, is_caller, is_drain, is_drain_there, answer_words, last_beside, leave_words, return_words, follows, way, link_words, begin_words, wanted, entry_words, turns, idle_words, word_words, start_words, waits, bytes, first_frame}
+use Rattle.vx_target.specs.Target.{Target, answer, general, general_of, branch_of, home, stack_on, holds_branch, is_slotted, kept, slotted, once, parameters_of, one, together, pause, in_flight, settled, set_stack, slots_in_flight, load_slot, store_slot, load_slots, store_slots, if_some, before, behind, plan_word, plan_words, past, landing_words, on_clusters, stack_steps, move_stack, leave_or_lower, save_words, reload_words, fetch_words, fetched, passes, calls_beside, store_or_call, argument_words, result_words, call_words, back_words, is_caller, is_drain, is_drain_there, answer_words, last_beside, leave_words, return_words, follows, way, link_words, begin_words, wanted, entry_words, turns, idle_words, word_words, start_words, waits, bytes, first_frame}
 use Rattle.vx_target.specs.Placed.{Depth, Labelled, PlacedAt, place_of, laid_pieces, landing_of, item_landings, word_landings, landing_pieces, function_pieces, functions_pieces, all_pieces, words_of}
 use Rattle.vx_target.specs.Carried.{Carries, IsMapped}
 use Rattle.vx_tie.specs.Plans.{AreSpaced, GoesOn, IsSpaced}
@@ -165,13 +165,16 @@ module _ (T : Target) where
     fetch_idles up (AsNumber n) = λ e. e
     fetch_idles up Stack = λ e. e
 
-    arguments_idles : (g : ℕ) (vs : List ℕ) (xs : List Operand) → Idles true (argument_words T f g vs xs) true
-    arguments_idles g [] xs = λ e. e
-    arguments_idles g (v ∷ vs) [] = λ e. e
+    arguments_idles : (g : ℕ) (vs : List ℕ) (xs : List Operand) → Idles true (argument_words T f g vs xs) false
+    arguments_idles g [] xs = last_idles true (Call (T.entry g))
+    arguments_idles g (v ∷ vs) [] = last_idles true (Call (T.entry g))
     arguments_idles g (v ∷ vs) (x ∷ xs) =
-        let store : Operation = Store (cluster_of_operand T f x) (bytes (T.slot g v)) (stack_on (cluster_of_operand T f x)) (fetched T f x) in
-        then_idles true true true (fetch_words T f T.frame x) (one store ∷ argument_words T f g vs xs) (fetch_idles T.frame x)
-        (op_idles true true store (argument_words T f g vs xs) (weak false true (argument_words T f g vs xs) (arguments_idles g vs xs)))
+        let rest : List Word = argument_words T f g vs xs in
+        then_idles true true false (fetch_words T f T.frame x) (store_or_call T g vs (passes T f g v x) rest) (fetch_idles T.frame x) (by (calls_beside T g vs (passes T f g v x)) (weak false false rest (arguments_idles g vs xs)))
+      where
+        by : (b : Bool) → Idles false (argument_words T f g vs xs) false → Idles true (if b then record { ops = passes T f g v x ∷ Call (T.entry g) ∷ []; idle = 0 } ∷ [] else one (passes T f g v x) ∷ argument_words T f g vs xs) false
+        by true h = inl (tt, λ e. e)
+        by false h = op_idles true false (passes T f g v x) (argument_words T f g vs xs) h
 
     result_idles : (result : Option ℕ) → Idles true (result_words T f result) true
     result_idles None = λ e. e
@@ -244,18 +247,20 @@ module _ (T : Target) where
           let op : ℕ → Operation = λ k. Compute k Add (InGeneral (stack_on k)) (Held (stack_on k)) (Number z) in
           settled_idles true (record { ops = on_clusters T.machine.clusters op; idle = 0 } ∷ []) (inl (spread_operates T.machine.clusters op some, λ e. e))
 
+      lower_idles : Idles true (leave_or_lower T) true
+      lower_idles = by ((T.machine.latency_alu == 1) && fits T.machine (BranchOn 0 true T.depth_trap ∷ stack_steps T (neg_ℤ (bytes T.frame))))
+        where
+          by : (b : Bool) → Idles true (if b then record { ops = BranchOn 0 true T.depth_trap ∷ stack_steps T (neg_ℤ (bytes T.frame)); idle = 0 } ∷ [] else one (BranchOn 0 true T.depth_trap) ∷ move_stack T (neg_ℤ (bytes T.frame))) true
+          by true = inl (tt, λ e. refl)
+          by false = let down : List Word = move_stack T (neg_ℤ (bytes T.frame)) in op_idles true true (BranchOn 0 true T.depth_trap) down (weak false true down (move_stack_idles (neg_ℤ (bytes T.frame))))
+
       call_idles : (p g : ℕ) (xs : List Operand) → Idles true (call_words T f p g xs) false
       call_idles p g xs =
           let test : Operation = Compute 0 (ToBranch Ltu) (InBranch (record { cluster = 0; number = 0 })) (Held (stack_on 0)) (Number (bytes (T.globals + T.frame))) in
-          let down : List Word = move_stack T (neg_ℤ (bytes T.frame)) in
-          let passes : List Word = argument_words T f g (parameters_of T g) xs in
-          let jumps : List Word = one (Call (T.entry g)) ∷ [] in
-          let leaves : List Word = one (BranchOn 0 true T.depth_trap) ∷ (down ++ (passes ++ jumps)) in
-          let passed : Idles true (passes ++ jumps) false = then_idles true true false passes jumps (arguments_idles g (parameters_of T g) xs) (last_idles true (Call (T.entry g))) in
-          let moved : Idles true (down ++ (passes ++ jumps)) false = then_idles true true false down (passes ++ jumps) (move_stack_idles (neg_ℤ (bytes T.frame))) passed in
-          let branched : Idles true leaves false = op_idles true false (BranchOn 0 true T.depth_trap) (down ++ (passes ++ jumps)) (weak false false (down ++ (passes ++ jumps)) moved) in
+          let passed : List Word = argument_words T f g (parameters_of T g) xs in
+          let lowered : Idles true (leave_or_lower T ++ passed) false = then_idles true true false (leave_or_lower T) passed lower_idles (arguments_idles g (parameters_of T g) xs) in
           let saves : List Word = save_words T f (T.saved f p) in
-          then_idles true true false (settled T (one test ∷ saves)) leaves (settled_idles true (one test ∷ saves) (op_idles true false test saves (stores_on (T.saved f p) (T.saved f p)))) branched
+          then_idles true true false (settled T (one test ∷ saves)) (leave_or_lower T ++ passed) (settled_idles true (one test ∷ saves) (op_idles true false test saves (stores_on (T.saved f p) (T.saved f p)))) lowered
 
       back_idles : (p : ℕ) (result : Option ℕ) → Idles true (back_words T f p result) true
       back_idles p result =

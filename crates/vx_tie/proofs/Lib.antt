@@ -4,6 +4,7 @@ pub mod Planned
 pub mod Simple
 pub mod Entry
 pub mod Moves
+pub mod Lowering
 pub mod Start
 pub mod Stacks
 pub mod Passing

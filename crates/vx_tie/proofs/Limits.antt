@@ -39,6 +39,23 @@ all_filed m ops fit =
 pub well : (m : Numbers) (ops : List Operation) → is_twice (destinations ops) ≡ false → list_all keeps_to_cluster ops ≡ true → fits m ops ≡ true → Good m ops
 well m ops once keeps fit = (bad_parts (is_twice (destinations ops)) (list_all keeps_to_cluster ops) (list_all (is_in_file m) (operands ops ++ destinations ops)) once keeps (all_filed m ops fit), fit)
 
+not_bad : (a b c : Bool) → (a || not b || not c) ≡ false → (a ≡ false) × (b ≡ true)
+not_bad true b c e = absurd (let z : true ≡ false = e in cc)
+not_bad false true c e = (refl, refl)
+not_bad false false c e = absurd (let z : true ≡ false = e in cc)
+
+-- an operation without a destination in front of others
+pub good_behind : (m : Numbers) (op : Operation) (ops : List Operation) → destination_of op ≡ None → keeps_to_cluster op ≡ true → Good m ops → fits m (op ∷ ops) ≡ true → Good m (op ∷ ops)
+good_behind m op ops none keeps good fit =
+    let a = not_bad (is_twice (destinations ops)) (list_all keeps_to_cluster ops) (list_all (is_in_file m) (operands ops ++ destinations ops)) good.0 in
+    well m (op ∷ ops) (ap (λ d. is_twice (list_of d ++ destinations ops)) none ∙ a.0) (ap (λ b. b && list_all keeps_to_cluster ops) keeps ∙ a.1) fit
+
+-- an operation of a good word keeps to its cluster
+pub keeps_alone : (m : Numbers) (op : Operation) → Good m (op ∷ []) → keeps_to_cluster op ≡ true
+keeps_alone m op good =
+    let a = not_bad (is_twice (destinations (op ∷ []))) (list_all keeps_to_cluster (op ∷ [])) (list_all (is_in_file m) (operands (op ∷ []) ++ destinations (op ∷ []))) good.0 in
+    (and_parts (keeps_to_cluster op) true a.1).0
+
 -- counts
 
 abbrev pub bit : Bool → ℕ

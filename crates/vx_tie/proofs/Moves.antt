@@ -1,6 +1,6 @@
 -- Stack pointers are moved, and arguments passed to the slots of parameters.
-use Rattle.std.proofs.Common.{◌≡◌, ◌≢◌, ◌<◌, ◌≤◌, ◌⊎◌, inl, inr, ⊎_elim, ◌+◌, ◌*◌, ◌^◌, ℕ, zero, suc, ℤ, pos, ◌+ℤ◌, neg_ℤ, Bool, false, ◌&&◌, ◌||◌, not, cond, Some, List, [], ◌∷◌, ◌++◌, map, refl, sym, ap, ◌∙◌, subst, arith}
-use Rattle.std.specs.Prelude.{drop, count_by, length}
+use Rattle.std.proofs.Common.{◌≡◌, ◌≢◌, ◌<◌, ◌≤◌, ◌⊎◌, inl, inr, ⊎_elim, ◌+◌, ◌*◌, ◌^◌, ℕ, zero, suc, ℤ, pos, ◌+ℤ◌, neg_ℤ, Bool, true, false, ◌&&◌, ◌||◌, not, cond, Some, List, [], ◌∷◌, ◌++◌, map, refl, sym, ap, ◌∙◌, subst, arith}
+use Rattle.std.specs.Prelude.{if◌then◌else◌, slice_get, drop, count_by, length}
 use Rattle.std.specs.List.{list_any, flat_map}
 use Rattle.std.proofs.lemmas.Int.{ints}
 use Rattle.std.proofs.lemmas.List.{append-nil}
@@ -9,13 +9,14 @@ use Rattle.vx_base.proofs.WrapLaws.{sum_of-exact}
 use Rattle.vx_flow.specs.Effects.{IsIn}
 use Rattle.vx_flow.specs.Walk.{numbers}
 use Rattle.vx_isa.specs.declared.operation.Register.{Register}
-use Rattle.vx_isa.specs.declared.operation.Register.TheVariants.{General}
+use Rattle.vx_isa.specs.declared.operation.Register.TheVariants.{General, Branch}
 use Rattle.vx_isa.specs.declared.operation.Operation.{Operation}
+use Rattle.vx_isa.specs.declared.operation.Operation.TheVariants.{BranchOn}
 use Rattle.vx_isa.specs.declared.program.Word.{Word}
 use Rattle.vx_isa.specs.declared.program.WordProgram.{WordProgram}
 use Rattle.vx_isa.specs.Numbers.{Numbers}
 use Rattle.vx_isa.specs.Operations.{cluster_of_register, destination_of}
-use Rattle.vx_isa.specs.Machine.{State, To, register, number_of, memory_after, takes_input, print_of, has_bad_address, lead_of, is_left}
+use Rattle.vx_isa.specs.Machine.{State, To, register, is_one, number_of, memory_after, takes_input, print_of, has_bad_address, lead_of, is_left}
 use Rattle.vx_isa.proofs.Lists.{count_by-cons}
 use Rattle.vx_target.specs.Target.{stack_on, pause, in_flight, bytes}
 use Rattle.vx_target.proofs.Forms.{Plainly, memory_on}
@@ -113,6 +114,37 @@ module _ (m : Numbers) (w : WordProgram) (fit : AllFit m w) (u : State) (op : �
         memory = b.memory ∙ no_store ks u.memory;
         stack = λ k lt. ap (λ g. seen g (General (stack_on k))) b.registers ∙ each_set ks u.registers k (numbers_in 0 n k (omega arith) (omega arith));
         others = λ x h. ap (λ g. seen g x) b.registers ∙ others_stay ks u.registers x (λ k i. h k);
+      }
+
+  -- the same operations behind a branch, in one word
+
+  abbrev Branching : (t p clusters : ℕ) → Word
+  Branching t p n = record { ops = BranchOn t true p ∷ map op (numbers 0 n); idle = 0 }
+
+  -- after the word, which has led to a place
+  pub record Branched (clusters place : ℕ) : Type 0 where
+    pub to : State
+    pub forth : Forth m w fit u to
+    pub there : to.place ≡ place
+    pub quiet : Quiet u to
+    pub memory : to.memory ≡ u.memory
+    pub stack : (k : ℕ) → k < clusters → register to (General (stack_on k)) ≡ value k
+    pub others : (q : Register) → ((k : ℕ) → q ≢ General (stack_on k)) → seen to.registers q ≡ seen u.registers q
+
+  pub branch_run : (t p n q : ℕ) → u.flying ≡ [] → slice_get w.words u.place ≡ Some (Branching t p n) → (if is_one (register u (Branch (record { cluster = 0; number = t }))) then To p else To (u.place + 1)) ≡ To q → Branched n q
+  branch_run t p n q calm at leads =
+      let ks : List ℕ = numbers 0 n in
+      let c : count_by takes_input (BranchOn t true p ∷ map op ks) ≡ 0 + count_by takes_input (map op ks) = count_by-cons takes_input (BranchOn t true p) (map op ks) in
+      let none : count_by takes_input (BranchOn t true p ∷ map op ks) ≡ 0 = (let h = no_count ks in omega arith) in
+      record {
+        to = after w u (Branching t p n) q;
+        forth = word_step m w fit u (Branching t p n) q calm at (record { addresses = no_bad ks; input = ap (λ b. b && not (is_left u.input)) (no_take ks) })
+            (ap (λ l. if is_one (register u (Branch (record { cluster = 0; number = t }))) then To p else l) (straight_on ks) ∙ leads);
+        there = refl;
+        quiet = record { calm = refl; input = ap (λ c. drop c u.input) none; out = ap (λ ys. u.out ++ ys) (no_print ks) ∙ append-nil u.out };
+        memory = no_store ks u.memory;
+        stack = λ k lt. each_set ks u.registers k (numbers_in 0 n k (omega arith) (omega arith));
+        others = λ x h. others_stay ks u.registers x (λ k i. h k);
       }
 
 -- the frame of the next function, and back

@@ -39,7 +39,7 @@ use Rattle.vx_mixed.specs.declared.layout.VirtualWord.TheVariants.{Planned, Drai
 use Rattle.vx_mixed.specs.declared.layout.VWords.{VWords}
 use Rattle.vx_mixed.specs.LaidSettled.{laid_reads, laid_writes, LeadsTo, Plans}
 use Rattle.vx_layout.specs.Origins.{ComesFrom, graph_op}
-use Rattle.vx_target.specs.Target.{Target, answer, general, general_of, branch_of, register_of, stack_on, holds_branch, is_slotted, kept, slotted, once, parameters_of, one, together, pause, in_flight, settled, set_stack, slots_in_flight, load_slot, store_slot, load_slots, store_slots, if_some, before, behind, past, leads, carried, carried_items, plan_word, plan_words, landing_words, on_clusters, move_stack, save_words, reload_words, fetch_words, fetched, cluster_of_operand, argument_words, result_words, call_words, back_words, is_caller, answer_words, last_beside, leave_words, return_words, follows, way, link_words, begin_words, wanted, entry_words, turns, idle_words, word_words, start_words, waits, bytes, first_frame, memory_words}
+use Rattle.vx_target.specs.Target.{Target, answer, general, general_of, branch_of, register_of, stack_on, holds_branch, is_slotted, kept, slotted, once, parameters_of, one, together, pause, in_flight, settled, set_stack, slots_in_flight, load_slot, store_slot, load_slots, store_slots, if_some, before, behind, past, leads, carried, carried_items, plan_word, plan_words, landing_words, on_clusters, stack_steps, move_stack, leave_or_lower, save_words, reload_words, fetch_words, fetched, passes, calls_beside, store_or_call, argument_words, result_words, call_words, back_words, is_caller, answer_words, last_beside, leave_words, return_words, follows, way, link_words, begin_words, wanted, entry_words, turns, idle_words, word_words, start_words, waits, bytes, first_frame, memory_words}
 use Rattle.vx_target.specs.Placed.{Depth, Labelled, laid_pieces, landing_of, item_landings, word_landings, landing_pieces, function_pieces, functions_pieces, all_pieces, words_of}
 use Rattle.vx_target.specs.Carried.{Carries, IsFunctionOf, IsMapped, item_of_laid}
 use Rattle.vx_tie.specs.Fitted.{SoundLaw}
@@ -268,6 +268,15 @@ module _ (T : Target) (flow : Flow) (ls : List VWords) (w : WordProgram) (sound 
       let op : ℕ → Operation = λ k. Compute k Add (InGeneral (stack_on k)) (Held (stack_on k)) (Number z) in
       settled_right (record { ops = on_clusters T.machine.clusters op; idle = 0 } ∷ []) (has_ops W N (on_clusters T.machine.clusters op) (spread_formed W N op 0 T.machine.clusters (λ k. (refl, refl))), tt)
 
+  lower_right : Words (leave_or_lower T)
+  lower_right = by ((T.machine.latency_alu == 1) && fits T.machine (BranchOn 0 true T.depth_trap ∷ stack_steps T (neg_ℤ (bytes T.frame))))
+    where
+      by : (b : Bool) → Words (if b then record { ops = BranchOn 0 true T.depth_trap ∷ stack_steps T (neg_ℤ (bytes T.frame)); idle = 0 } ∷ [] else one (BranchOn 0 true T.depth_trap) ∷ move_stack T (neg_ℤ (bytes T.frame)))
+      by true =
+          let op : ℕ → Operation = λ k. Compute k Add (InGeneral (stack_on k)) (Held (stack_on k)) (Number (neg_ℤ (bytes T.frame))) in
+          (has_ops W N (BranchOn 0 true T.depth_trap ∷ on_clusters T.machine.clusters op) (trap_below, spread_formed W N op 0 T.machine.clusters (λ k. (refl, refl))), tt)
+      by false = (has_one W N (BranchOn 0 true T.depth_trap) trap_below, move_stack_right (neg_ℤ (bytes T.frame)))
+
   start_right : Words (start_words T flow.main)
   start_right =
       let op : ℕ → Operation = λ k. Move k (stack_on k) (Number (bytes (first_frame T))) in
@@ -286,12 +295,15 @@ module _ (T : Target) (flow : Flow) (ls : List VWords) (w : WordProgram) (sound 
   fetch_right f up (AsNumber n) = tt
   fetch_right f up Stack = tt
 
-  arguments_right : (f g : ℕ) (vs : List ℕ) (xs : List Operand) → Words (argument_words T f g vs xs)
-  arguments_right f g [] xs = tt
-  arguments_right f g (v ∷ vs) [] = tt
-  arguments_right f g (v ∷ vs) (x ∷ xs) =
-      right_append W N (fetch_words T f T.frame x) (one (Store (cluster_of_operand T f x) (bytes (T.slot g v)) (stack_on (cluster_of_operand T f x)) (fetched T f x)) ∷ argument_words T f g vs xs)
-      (fetch_right f T.frame x) (has_one W N (Store (cluster_of_operand T f x) (bytes (T.slot g v)) (stack_on (cluster_of_operand T f x)) (fetched T f x)) tt, arguments_right f g vs xs)
+  arguments_right : (f g : ℕ) (vs : List ℕ) (xs : List Operand) → g < Count → Words (argument_words T f g vs xs)
+  arguments_right f g [] xs there = (has_one W N (Call (T.entry g)) (entry_below g there), tt)
+  arguments_right f g (v ∷ vs) [] there = (has_one W N (Call (T.entry g)) (entry_below g there), tt)
+  arguments_right f g (v ∷ vs) (x ∷ xs) there =
+      right_append W N (fetch_words T f T.frame x) (store_or_call T g vs (passes T f g v x) (argument_words T f g vs xs)) (fetch_right f T.frame x) (by (calls_beside T g vs (passes T f g v x)) (arguments_right f g vs xs there))
+    where
+      by : (b : Bool) → Words (argument_words T f g vs xs) → Words (if b then record { ops = passes T f g v x ∷ Call (T.entry g) ∷ []; idle = 0 } ∷ [] else one (passes T f g v x) ∷ argument_words T f g vs xs)
+      by true h = (has_ops W N (passes T f g v x ∷ Call (T.entry g) ∷ []) (tt, (entry_below g there, tt)), tt)
+      by false h = (has_one W N (passes T f g v x) tt, h)
 
   result_right : (f : ℕ) (result : Option ℕ) → Words (result_words T f result)
   result_right f None = tt
@@ -304,14 +316,10 @@ module _ (T : Target) (flow : Flow) (ls : List VWords) (w : WordProgram) (sound 
   call_right : (f p g : ℕ) (xs : List Operand) → g < Count → Words (call_words T f p g xs)
   call_right f p g xs there =
       let test : Operation = Compute 0 (ToBranch Ltu) (InBranch (record { cluster = 0; number = 0 })) (Held (stack_on 0)) (Number (bytes (T.globals + T.frame))) in
-      let down : List Word = move_stack T (neg_ℤ (bytes T.frame)) in
-      let passes : List Word = argument_words T f g (parameters_of T g) xs in
-      let calls : List Word = one (Call (T.entry g)) ∷ [] in
-      let branches : List Word = one (BranchOn 0 true T.depth_trap) ∷ (down ++ (passes ++ calls)) in
-      let passed : Words (passes ++ calls) = right_append W N passes calls (arguments_right f g (parameters_of T g) xs) (has_one W N (Call (T.entry g)) (entry_below g there), tt) in
-      let branched : Words branches = (has_one W N (BranchOn 0 true T.depth_trap) trap_below, right_append W N down (passes ++ calls) (move_stack_right (neg_ℤ (bytes T.frame))) passed) in
+      let passed : List Word = argument_words T f g (parameters_of T g) xs in
+      let lowered : Words (leave_or_lower T ++ passed) = right_append W N (leave_or_lower T) passed lower_right (arguments_right f g (parameters_of T g) xs there) in
       let saves : List Word = save_words T f (T.saved f p) in
-      right_append W N (settled T (one test ∷ saves)) branches (settled_right (one test ∷ saves) (has_one W N test refl, store_slots_right f (T.saved f p) (T.saved f p))) branched
+      right_append W N (settled T (one test ∷ saves)) (leave_or_lower T ++ passed) (settled_right (one test ∷ saves) (has_one W N test refl, store_slots_right f (T.saved f p) (T.saved f p))) lowered
 
   back_right : (f p : ℕ) (result : Option ℕ) → Words (back_words T f p result)
   back_right f p result =

@@ -16,7 +16,7 @@ use Rattle.vx_target.specs.Target.{Target}
 use Rattle.vx_target.specs.Carried.{Carries}
 use Rattle.vx_target.specs.Finish.{Finishes}
 use Rattle.vx_target.specs.Places.{plan_place}
-use Rattle.vx_tie.specs.Plans.{IsOther, loads_slot, stores_slot, picks_number, tests_number, moves, tests_depth, leaves_by_depth, moves_stacks, calls, takes_link, stores_link, loads_link, moves_and_loads_link, gives_link, returns, moves_and_returns, sets_stacks, calls_first, halts, traps, traps_depth, idles, goes, branches, goes_out, IsPlanPlace, IsIdle, cycles_at, cycles_from, CarriesPlan, AreSpaced, PlanLaw}
+use Rattle.vx_tie.specs.Plans.{IsOther, loads_slot, stores_slot, picks_number, tests_number, moves, tests_depth, leaves_by_depth, leaves_or_lowers, moves_stacks, calls, stores_slot_and_calls, takes_link, stores_link, loads_link, moves_and_loads_link, gives_link, returns, moves_and_returns, sets_stacks, calls_first, halts, traps, traps_depth, idles, goes, branches, goes_out, IsPlanPlace, IsIdle, cycles_at, cycles_from, CarriesPlan, AreSpaced, PlanLaw}
 use Rattle.vx_tie.proofs.EachWord.{IsPlanWord, word_kind, plan_stands}
 use Rattle.vx_tie.proofs.IdleWords.{Operates, Busy, busy_beside}
 
@@ -34,8 +34,10 @@ module _ (T : Target) (count q : ℕ) where
   short word (moves k to from) e = absurd (cc)
   short word (tests_depth h) e = absurd (cc)
   short word (leaves_by_depth h) e = absurd (cc)
+  short word (leaves_or_lowers h) e = absurd (cc)
   short word (moves_stacks z h i) e = omega arith
   short word (calls h) e = absurd (cc)
+  short word (stores_slot_and_calls h v k from n) e = absurd (cc)
   short word (takes_link h) e = absurd (cc)
   short word (stores_link h) e = absurd (cc)
   short word (loads_link h) e = absurd (cc)

@@ -35,7 +35,7 @@ use Rattle.vx_regs.specs.declared.map.RegMap.{RegMap}
 use Rattle.vx_regs.specs.Mapped.{first_of}
 use Rattle.vx_target.specs.declared.finished.Finished.{Finished}
 use Rattle.vx_target.specs.declared.finished.TracePlaces.{TracePlaces}
-use Rattle.vx_target.specs.Target.{Target, answer, bytes, first_frame, general, holds_branch, is_drain, is_slotted, kept, on_clusters, one, plan_word, slotted, stack_on, waits}
+use Rattle.vx_target.specs.Target.{Target, answer, bytes, first_frame, general, holds_branch, is_drain, is_slotted, kept, on_clusters, one, plan_word, slotted, stack_on, stack_steps, waits}
 use Rattle.vx_target.specs.Carried.{CallsAt, NeedsSlot}
 use Rattle.vx_target.specs.Places.{places_in}
 use Rattle.vx_target.specs.Finish.{Finishes}
@@ -123,11 +123,14 @@ pub data IsOther (T : Target) (functions place : ℕ) : Word → Type 0 where
   picks_number : (f v b : ℕ) → f < functions → NeedsSlot T f v → holds_branch T f v ≡ true → IsBranchOf T f v b → IsOther T functions place (one (Select 0 answer (record { cluster = 0; number = b }) (Number (pos 1)) (Number (pos 0))))
   tests_number : (f v b : ℕ) → f < functions → NeedsSlot T f v → holds_branch T f v ≡ true → IsBranchOf T f v b → IsOther T functions place (one (Compute 0 (ToBranch Ne) (InBranch (record { cluster = 0; number = b })) (Held answer) (Number (pos 0))))
   moves : (k : ℕ) (to : GeneralRegister) (from : Source) → IsOther T functions place (one (Move k to from))
-  -- calls: the depth is tested, and the stack pointers of all clusters go a frame down, and behind the call up again
+  -- calls: the depth is tested, and the stack pointers of all clusters go a frame down, perhaps in the word that leaves by the depth,
+  -- and behind the call up again; the last argument goes to its slot, perhaps in the word of the call
   tests_depth : IsInCall T functions place → IsOther T functions place (one (Compute 0 (ToBranch Ltu) (InBranch (record { cluster = 0; number = 0 })) (Held (stack_on 0)) (Number (bytes (T.globals + T.frame)))))
   leaves_by_depth : IsInCall T functions place → IsOther T functions place (one (BranchOn 0 true T.depth_trap))
+  leaves_or_lowers : IsInCall T functions place → IsOther T functions place (record { ops = BranchOn 0 true T.depth_trap ∷ stack_steps T (neg_ℤ (bytes T.frame)); idle = 0 })
   moves_stacks : (z : ℤ) → (z ≡ bytes T.frame) ⊎ (z ≡ neg_ℤ (bytes T.frame)) → IsInCall T functions place → IsOther T functions place (record { ops = on_clusters T.machine.clusters (λ k. Compute k Add (InGeneral (stack_on k)) (Held (stack_on k)) (Number z)); idle = 0 })
   calls : (here : IsInCall T functions place) → IsOther T functions place (one (Call (T.entry here.called)))
+  stores_slot_and_calls : (here : IsInCall T functions place) (v k : ℕ) (from : Source) → NeedsSlot T here.called v → IsOther T functions place (record { ops = Store k (bytes (T.slot here.called v)) (stack_on k) from ∷ Call (T.entry here.called) ∷ []; idle = 0 })
   -- entries: the link goes to the frame
   takes_link : IsInEntry T functions place → IsOther T functions place (one (FromLink (general 0 3)))
   stores_link : IsInEntry T functions place → IsOther T functions place (one (Store 0 (pos 0) (stack_on 0) (Held (general 0 3))))
