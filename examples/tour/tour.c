@@ -4,15 +4,16 @@ int main(void) {
     int n;
     int last = 0;
     int sum = 0;
+    int way = 0;
     while (more_input()) {
         n = read_int();
-        if (n < 0)
-            n = -n;
-        if (n < 8)
-            seen[n] = seen[n] + 1;
-        sum = sum + n * last;
+        sum = sum + n * n;
+        way = way + (n - last) * (n - last);
         last = n;
+        if (n < 0)
+            n = 0;
+        seen[n & 7] = seen[n & 7] + 1;
     }
-    printf("%d %d\n", sum, seen[3]);
+    printf("%d %d %d\n", sum, way, seen[3]);
     return 0;
 }

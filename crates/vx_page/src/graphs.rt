@@ -1,8 +1,9 @@
 // Graphs as a plain text: function by function, block by block, an operation a line.
 
+use crate::declarations::ArrayNames;
 use crate::operations::{put_exit, put_function, put_op};
 use crate::page::{Page, small};
-use crate::view::Names;
+use crate::view::{Names, names_of_graph};
 use vx_base::listed::Bytes;
 use vx_flow::graph::{Block, Flow, Graph, Value};
 use vx_profile::counts::Counts;
@@ -41,15 +42,17 @@ fn put_graph(page: &mut Page, names: &Names, number: u32, counts: &Counts, graph
     }
 }
 
-/// Puts the graphs of a program as a plain text.
-pub fn put_graphs(page: &mut Page, functions: &[Bytes], counts: &Counts, flow: &Flow) {
+/// Puts the graphs of a program, whose functions and arrays have these names, as a plain text.
+pub fn put_graphs(
+    page: &mut Page,
+    functions: &[Bytes],
+    arrays: &ArrayNames,
+    counts: &Counts,
+    flow: &Flow,
+) {
     for (number, graph) in flow.functions.as_slice().iter().enumerate() {
-        let names = Names {
-            functions,
-            texts: flow.texts.as_slice(),
-            arrays: graph.arrays.as_slice(),
-            blocks: graph.blocks.as_slice(),
-        };
-        put_graph(page, &names, small(number), counts, graph);
+        let function = small(number);
+        let names = names_of_graph(functions, arrays, flow, function, graph);
+        put_graph(page, &names, function, counts, graph);
     }
 }

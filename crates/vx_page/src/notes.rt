@@ -41,7 +41,7 @@ pub fn notes_of(alloc: Global, blocks: &[Block]) -> Result<Vec<BlockNote>, NoMem
 }
 
 /// The note of a block; one of a block without operations where there is none.
-pub(crate) fn note_of(notes: &[BlockNote], block: BlockId) -> BlockNote {
+pub fn note_of(notes: &[BlockNote], block: BlockId) -> BlockNote {
     match notes.get(block as usize) {
         Some(note) => *note,
         None => BlockNote {
@@ -93,7 +93,7 @@ fn push_join(
 }
 
 /// The edges from outside at the join of a block, none where it is no join.
-pub(crate) fn edges_of(joins: &[Join], block: BlockId) -> &[Edge] {
+pub fn edges_of(joins: &[Join], block: BlockId) -> &[Edge] {
     for join in joins {
         if join.block == block {
             return join.edges.as_slice();

@@ -1,16 +1,17 @@
 // An operation, and how a block ends, as a line of text.
 
-use crate::page::Page;
+use crate::page::{Page, small};
 use crate::view::Names;
 use vx_base::arithmetic::Code;
 use vx_base::listed::Bytes;
 use vx_base::outcome::Trap;
+use vx_dep::mode::Mode;
 use vx_flow::graph::{ArrayId, BlockId, Exit, Op, Operand, Value};
 use vx_flow::trace::TraceOp;
 use vx_words::operation_text::name_of_code;
 
 /// Puts a value.
-pub(crate) fn put_value(page: &mut Page, value: Value) {
+pub fn put_value(page: &mut Page, value: Value) {
     page.field(b"v", value);
 }
 
@@ -28,20 +29,34 @@ fn put_to(page: &mut Page, value: Value) {
     page.put(b" = ");
 }
 
-/// Puts an array: `g` and its number for a global, `a` and its number for one of the function's own.
+/// The bytes of a name or text, none where it is not there.
+pub fn bytes_at(all: &[Bytes], number: u32) -> &[u8] {
+    match all.get(number as usize) {
+        Some(bytes) => bytes.as_slice(),
+        None => &[],
+    }
+}
+
+/// The name of an array in the source, no bytes where it is not known.
+fn name_of_array<'a>(names: &Names<'a>, array: ArrayId, is_global: bool) -> &'a [u8] {
+    if is_global {
+        bytes_at(names.globals, array)
+    } else {
+        bytes_at(names.own, array.saturating_sub(small(names.globals.len())))
+    }
+}
+
+/// Puts an array by its name; where that is not known, `g` and its number for a global, `a` and its number for one of the function's own.
 fn put_array(page: &mut Page, names: &Names, array: ArrayId) {
     let is_global = match names.arrays.get(array as usize) {
         Some(found) => found.global,
         None => false,
     };
-    page.field(if is_global { b"g" } else { b"a" }, array);
-}
-
-/// The bytes of a name or text, none where it is not there.
-fn bytes_at(all: &[Bytes], number: u32) -> &[u8] {
-    match all.get(number as usize) {
-        Some(bytes) => bytes.as_slice(),
-        None => &[],
+    let name = name_of_array(names, array, is_global);
+    if name.is_empty() {
+        page.field(if is_global { b"g" } else { b"a" }, array);
+    } else {
+        page.source(name);
     }
 }
 
@@ -227,5 +242,13 @@ pub fn put_exit(page: &mut Page, names: &Names, exit: &Exit) {
             put_operand(page, operand);
         }
         Exit::Ends(trap) => page.put(name_of_trap(*trap)),
+    }
+}
+
+/// Puts the name of a mode.
+pub fn put_mode(page: &mut Page, mode: Mode) {
+    match mode {
+        Mode::Free => page.put(b"free"),
+        Mode::Barred => page.put(b"barred"),
     }
 }

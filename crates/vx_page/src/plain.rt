@@ -2,11 +2,10 @@
 
 use crate::facts::{OpFact, Passed, facts_of};
 use crate::notes::BlockNote;
-use crate::operations::{put_function, put_trace_op};
+use crate::operations::{put_function, put_mode, put_trace_op};
 use crate::page::Page;
-use crate::traces::put_mode;
+use crate::spots::{Spot, spots_of};
 use crate::view::{Names, TraceView};
-use crate::words::{Spot, spots_of};
 use std::alloc::Global;
 use vx_base::outcome::NoMemory;
 use vx_dep::copies::{EdgeCopies, Rejoin};

@@ -4,13 +4,13 @@ use crate::given::{Given, names_for, notes_for, totals_of, view_of};
 use std::alloc::Global;
 use vx_base::outcome::NoMemory;
 use vx_flow::graph::Graph;
-use vx_page::against::{
+use vx_html::against::{
     agree, put_both_totals, put_lone_front, put_pair_end, put_pair_front, put_pair_middle,
 };
-use vx_page::head::put_section;
+use vx_html::head::put_section;
+use vx_html::traces::put_inside;
 use vx_page::notes::BlockNote;
 use vx_page::page::{Page, small};
-use vx_page::traces::put_inside;
 use vx_page::view::TraceView;
 use vx_region::TracePlan;
 
@@ -38,7 +38,7 @@ fn partner_of<'a>(traces: &'a [TracePlan], trace: &TraceView) -> Option<TraceVie
 }
 
 fn put_one(alloc: Global, page: &mut Page, both: &Both, trace: &TraceView) -> Result<(), NoMemory> {
-    let names = names_for(both.one, both.graph);
+    let names = names_for(both.one, both.function, both.graph);
     put_inside(alloc, page, both.one.machine, &names, trace, both.notes)
 }
 
@@ -48,7 +48,7 @@ fn put_other(
     both: &Both,
     trace: &TraceView,
 ) -> Result<(), NoMemory> {
-    let names = names_for(both.other, both.other_graph);
+    let names = names_for(both.other, both.function, both.other_graph);
     put_inside(
         alloc,
         page,
@@ -66,7 +66,12 @@ fn put_pair(
     trace: &TraceView,
     beside: &TraceView,
 ) -> Result<(), NoMemory> {
-    put_pair_front(page, &names_for(both.one, both.graph), trace, beside);
+    put_pair_front(
+        page,
+        &names_for(both.one, both.function, both.graph),
+        trace,
+        beside,
+    );
     put_one(alloc, page, both, trace)?;
     put_pair_middle(page);
     put_other(alloc, page, both, beside)?;
@@ -92,7 +97,11 @@ fn put_lone(
     both: &Both,
     trace: &TraceView,
 ) -> Result<(), NoMemory> {
-    put_lone_front(page, &names_for(both.other, both.other_graph), trace);
+    put_lone_front(
+        page,
+        &names_for(both.other, both.function, both.other_graph),
+        trace,
+    );
     put_other(alloc, page, both, trace)?;
     put_pair_end(page);
     Ok(())

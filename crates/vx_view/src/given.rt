@@ -2,16 +2,19 @@
 
 use crate::planned::{Planned, Read};
 use std::alloc::Global;
+use vx_ast::fault::SourceFault;
 use vx_ast::typed::Typed;
 use vx_base::listed::{Bytes, copied};
 use vx_base::outcome::NoMemory;
 use vx_compiled::CompiledProgram;
 use vx_flow::graph::{Flow, Graph};
+use vx_html::head::{Asked, Totals};
+use vx_lex::tokens;
 use vx_machine::Machine;
-use vx_page::head::{Asked, Totals};
+use vx_page::declarations::{ArrayNames, array_names};
 use vx_page::notes::{BlockNote, note_trace, notes_of};
 use vx_page::page::small;
-use vx_page::view::{Names, TraceView};
+use vx_page::view::{Names, TraceView, names_of_graph};
 use vx_profile::counts::Counts;
 use vx_region::TracePlan;
 use vx_rewrite::FlowOptions;
@@ -21,6 +24,8 @@ use vx_rewrite::FlowOptions;
 pub(crate) struct Given<'a> {
     /// The names of its functions.
     pub(crate) functions: &'a [Bytes],
+    /// The names of its arrays.
+    pub(crate) arrays: &'a ArrayNames,
     /// The graphs that were planned.
     pub(crate) flow: &'a Flow,
     /// How often their blocks were passed.
@@ -46,12 +51,25 @@ impl<'a> Given<'a> {
 pub(crate) fn given_of<'a>(read: &Read<'a>, planned: &'a Planned, asked: Asked<'a>) -> Given<'a> {
     Given {
         functions: read.functions,
+        arrays: read.arrays,
         flow: &planned.flow,
         counts: read.counts,
         machine: read.machine,
         compiled: &planned.compiled,
         asked,
         options: read.options,
+    }
+}
+
+/// The names of the arrays of a source, none where it has no tokens.
+pub(crate) fn arrays_of(alloc: Global, source: &[u8]) -> Result<ArrayNames, NoMemory> {
+    if source.len() > 1048576 {
+        return array_names(alloc, &[]);
+    }
+    match tokens(alloc, source) {
+        Ok(all) => array_names(alloc, all.as_slice()),
+        Err(SourceFault::NoMemory) => Err(NoMemory),
+        Err(_) => array_names(alloc, &[]),
     }
 }
 
@@ -65,19 +83,9 @@ pub(crate) fn names_of(alloc: Global, program: &Typed) -> Result<Vec<Bytes>, NoM
     Ok(names)
 }
 
-/// The names that are needed for a graph.
-pub(crate) fn names_for<'a>(given: &Given<'a>, graph: &'a Graph) -> Names<'a> {
-    names_by(given.functions, given.flow, graph)
-}
-
-/// The same, of functions with these names.
-pub(crate) fn names_by<'a>(functions: &'a [Bytes], flow: &'a Flow, graph: &'a Graph) -> Names<'a> {
-    Names {
-        functions,
-        texts: flow.texts.as_slice(),
-        arrays: graph.arrays.as_slice(),
-        blocks: graph.blocks.as_slice(),
-    }
+/// The names that are needed for the graph of a function.
+pub(crate) fn names_for<'a>(given: &Given<'a>, function: u32, graph: &'a Graph) -> Names<'a> {
+    names_of_graph(given.functions, given.arrays, given.flow, function, graph)
 }
 
 /// A trace of the plan, with its number.

@@ -8,6 +8,7 @@ use vx_compile::{compile_flow, planned_with};
 use vx_compiled::CompiledProgram;
 use vx_flow::graph::Flow;
 use vx_machine::Machine;
+use vx_page::declarations::ArrayNames;
 use vx_profile::counts::Counts;
 use vx_rewrite::FlowOptions;
 
@@ -16,6 +17,8 @@ use vx_rewrite::FlowOptions;
 pub(crate) struct Read<'a> {
     pub(crate) program: &'a Typed,
     pub(crate) functions: &'a [Bytes],
+    pub(crate) arrays: &'a ArrayNames,
+    pub(crate) source: &'a [u8],
     pub(crate) counts: &'a Counts,
     pub(crate) machine: &'a Machine,
     pub(crate) growth: u32,

@@ -1,21 +1,23 @@
 // What is shown: files are read in the order in which `vexc compile` reads them, and only when all is made a page is written.
 
 use crate::beside::put_beside;
-use crate::given::{Given, given_of, names_of};
+use crate::given::{Given, arrays_of, given_of, names_of};
 use crate::options::{Answer, Request, Stage};
 use crate::planned::{Planned, Read, planned_of};
 use crate::stages::text_of;
 use crate::whole_page::{put_body, put_head};
 use std::alloc::Global;
 use vx_ast::typed::Typed;
+use vx_base::listed::Bytes;
 use vx_base::outcome::NoMemory;
 use vx_files::{counts_for, machine_for};
+use vx_html::head::Asked;
 use vx_io::depot::{Depot, DepotFault};
 use vx_io::role::Role;
 use vx_io::sink::Sink;
 use vx_io::whole_file::{FileRead, read_file};
 use vx_machine::Machine;
-use vx_page::head::Asked;
+use vx_page::declarations::ArrayNames;
 use vx_page::page::Page;
 use vx_profile::counts::Counts;
 use vx_rewrite::FlowOptions;
@@ -26,15 +28,14 @@ use vx_types::discard;
 /// The most bytes of a source.
 const MOST_SOURCE_BYTES: u64 = 1048576;
 
-/// What stands on a page besides: what was asked, the bytes of the source, and a machine beside the first one.
+/// What stands on a page besides: what was asked, and a machine beside the first one.
 #[derive(Clone, Copy)]
 struct Wanted<'a> {
     asked: Asked<'a>,
-    source: &'a [u8],
     beside: Option<&'a Machine>,
 }
 
-/// The bytes of the source once more, which stand on the page.
+/// The bytes of the source once more, which stand on the page and name its arrays.
 fn source_of<D: Depot>(alloc: Global, depot: &mut D, name: &str) -> Result<Vec<u8>, Status> {
     match read_file(alloc, depot, name, MOST_SOURCE_BYTES) {
         Ok(FileRead::Whole(bytes)) => Ok(bytes),
@@ -92,7 +93,7 @@ fn put_parts(
     given: &Given,
     wanted: &Wanted,
 ) -> Result<(), NoMemory> {
-    put_head(page, given, wanted.source);
+    put_head(page, given, read.source);
     put_body(alloc, page, given)?;
     match wanted.beside {
         Some(machine) => put_machine_beside(alloc, page, read, given, machine),
@@ -137,19 +138,13 @@ fn show_wanted<D: Depot>(
     name: &str,
     beside: Option<&Machine>,
 ) -> Status {
-    match source_of(alloc, depot, request.source) {
-        Ok(source) => {
-            let wanted = Wanted {
-                asked: asked_by(request),
-                source: source.as_slice(),
-                beside,
-            };
-            match page_of(alloc, read, &wanted) {
-                Ok(page) => write_page(depot, name, page.as_slice()),
-                Err(_) => Status::NoMemory,
-            }
-        }
-        Err(status) => status,
+    let wanted = Wanted {
+        asked: asked_by(request),
+        beside,
+    };
+    match page_of(alloc, read, &wanted) {
+        Ok(page) => write_page(depot, name, page.as_slice()),
+        Err(_) => Status::NoMemory,
     }
 }
 
@@ -192,6 +187,80 @@ fn show_read<D: Depot, K: Sink>(
     }
 }
 
+fn show_named<D: Depot, K: Sink>(
+    alloc: Global,
+    depot: &mut D,
+    out: &mut K,
+    program: &Typed,
+    functions: &[Bytes],
+    arrays: &ArrayNames,
+    source: &[u8],
+    counts: &Counts,
+    machine: &Machine,
+    request: &Request,
+) -> Status {
+    let options = FlowOptions {
+        inline: request.rewriting.inline,
+        select: request.rewriting.select,
+    };
+    let read = Read {
+        program,
+        functions,
+        arrays,
+        source,
+        counts,
+        machine,
+        growth: request.growth,
+        options,
+    };
+    show_read(alloc, depot, out, &read, request)
+}
+
+fn show_by_functions<D: Depot, K: Sink>(
+    alloc: Global,
+    depot: &mut D,
+    out: &mut K,
+    program: &Typed,
+    functions: &[Bytes],
+    source: &[u8],
+    counts: &Counts,
+    machine: &Machine,
+    request: &Request,
+) -> Status {
+    match arrays_of(alloc, source) {
+        Ok(arrays) => show_named(
+            alloc, depot, out, program, functions, &arrays, source, counts, machine, request,
+        ),
+        Err(_) => Status::NoMemory,
+    }
+}
+
+fn show_source<D: Depot, K: Sink>(
+    alloc: Global,
+    depot: &mut D,
+    out: &mut K,
+    program: &Typed,
+    source: &[u8],
+    counts: &Counts,
+    machine: &Machine,
+    request: &Request,
+) -> Status {
+    match names_of(alloc, program) {
+        Ok(functions) => show_by_functions(
+            alloc,
+            depot,
+            out,
+            program,
+            functions.as_slice(),
+            source,
+            counts,
+            machine,
+            request,
+        ),
+        Err(_) => Status::NoMemory,
+    }
+}
+
 fn show_for<D: Depot, K: Sink>(
     alloc: Global,
     depot: &mut D,
@@ -201,23 +270,18 @@ fn show_for<D: Depot, K: Sink>(
     machine: &Machine,
     request: &Request,
 ) -> Status {
-    let options = FlowOptions {
-        inline: request.rewriting.inline,
-        select: request.rewriting.select,
-    };
-    match names_of(alloc, program) {
-        Ok(functions) => {
-            let read = Read {
-                program,
-                functions: functions.as_slice(),
-                counts,
-                machine,
-                growth: request.growth,
-                options,
-            };
-            show_read(alloc, depot, out, &read, request)
-        }
-        Err(_) => Status::NoMemory,
+    match source_of(alloc, depot, request.source) {
+        Ok(source) => show_source(
+            alloc,
+            depot,
+            out,
+            program,
+            source.as_slice(),
+            counts,
+            machine,
+            request,
+        ),
+        Err(status) => status,
     }
 }
 

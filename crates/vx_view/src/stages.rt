@@ -1,6 +1,6 @@
 // The graphs of a stage, or the traces, as a plain text.
 
-use crate::given::{names_by, notes_for, view_of};
+use crate::given::{notes_for, view_of};
 use crate::options::Stage;
 use crate::planned::{Read, planned_of};
 use std::alloc::Global;
@@ -11,6 +11,7 @@ use vx_lower::lower;
 use vx_page::graphs::put_graphs;
 use vx_page::page::{Page, small};
 use vx_page::plain::put_plain_trace;
+use vx_page::view::names_of_graph;
 use vx_profile::counts::Counts;
 use vx_region::TracePlan;
 use vx_rewrite::FlowOptions;
@@ -54,7 +55,7 @@ fn put_traces_of(
     function: u32,
     graph: &Graph,
 ) -> Result<(), NoMemory> {
-    let names = names_by(read.functions, flow, graph);
+    let names = names_of_graph(read.functions, read.arrays, flow, function, graph);
     let notes = notes_for(alloc, traces, function, graph)?;
     for (number, plan) in traces.iter().enumerate() {
         if plan.function == function {
@@ -89,7 +90,7 @@ fn put_planned(alloc: Global, page: &mut Page, read: &Read) -> Result<(), NoMemo
 /// Graphs without counts: a profile counts the blocks of cleaned graphs, which have other numbers.
 fn put_uncounted(alloc: Global, page: &mut Page, read: &Read, flow: &Flow) {
     let none = Counts::new(alloc);
-    put_graphs(page, read.functions, &none, flow);
+    put_graphs(page, read.functions, read.arrays, &none, flow);
     drop(none);
 }
 
@@ -97,7 +98,7 @@ fn put_flow(alloc: Global, page: &mut Page, read: &Read, stage: Stage) -> Result
     let flow = graphs_of(alloc, read, stage)?;
     match stage {
         Stage::Lowered => put_uncounted(alloc, page, read, &flow),
-        _ => put_graphs(page, read.functions, read.counts, &flow),
+        _ => put_graphs(page, read.functions, read.arrays, read.counts, &flow),
     }
     drop(flow);
     Ok(())

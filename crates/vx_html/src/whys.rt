@@ -1,17 +1,18 @@
 // Why an operation stands in its word and in no earlier one: the operation that it waits for, or what is full.
 
-use crate::facts::OpFact;
+use crate::bars::Bar;
 use crate::loads::{Full, Load, both, copies_in, full_at, load_at, name_of_full, need_of};
-use crate::notes::BlockNote;
-use crate::operations::put_value;
-use crate::page::Page;
-use crate::view::{Names, TraceView};
 use vx_dep::Earlier;
 use vx_dep::traits::{read, written};
 use vx_flow::graph::Value;
 use vx_flow::operands::Reads;
 use vx_flow::trace::TraceOp;
 use vx_machine::Machine;
+use vx_page::facts::OpFact;
+use vx_page::notes::BlockNote;
+use vx_page::operations::put_value;
+use vx_page::page::Page;
+use vx_page::view::{Names, TraceView};
 
 /// All that is shown of a trace.
 #[derive(Clone, Copy)]
@@ -26,6 +27,8 @@ pub struct Shown<'a> {
     pub facts: &'a [OpFact],
     /// What its words take.
     pub loads: &'a [Load],
+    /// Its results that take more than a cycle to land.
+    pub bars: &'a [Bar],
     /// The blocks of its function.
     pub notes: &'a [BlockNote],
     /// The greatest sum of delays from its start to its end.

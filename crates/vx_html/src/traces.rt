@@ -1,31 +1,25 @@
 // A trace on the page: one line that names it, and behind that its words, its operations and its copies.
 
-use crate::facts::{OpFact, facts_of, longest};
+use crate::bars::bars_of;
 use crate::loads::loads_of;
-use crate::notes::{BlockNote, edges_of};
-use crate::operations::{put_function, put_trace_op};
-use crate::page::{Page, small};
-use crate::view::{Names, TraceView};
+use crate::units::put_use;
 use crate::whys::{Shown, put_why};
-use crate::words::{put_colour, put_words, spots_of};
+use crate::words::{put_colour, put_words};
 use std::alloc::Global;
 use vx_base::outcome::NoMemory;
 use vx_dep::copies::{EdgeCopies, Rejoin};
-use vx_dep::mode::Mode;
 use vx_flow::graph::{BlockId, Edge};
 use vx_machine::Machine;
+use vx_page::facts::{OpFact, facts_of, longest};
+use vx_page::notes::{BlockNote, edges_of};
+use vx_page::operations::{put_function, put_mode, put_trace_op};
+use vx_page::page::{Page, small};
+use vx_page::spots::{Spot, spots_of};
+use vx_page::view::{Names, TraceView};
 
 fn put_blocks(page: &mut Page, blocks: &[BlockId]) {
     for block in blocks {
         page.field(b" ", *block);
-    }
-}
-
-/// Puts the name of a mode.
-pub(crate) fn put_mode(page: &mut Page, mode: Mode) {
-    match mode {
-        Mode::Free => page.put(b"free"),
-        Mode::Barred => page.put(b"barred"),
     }
 }
 
@@ -156,14 +150,14 @@ fn put_copies(page: &mut Page, shown: &Shown) {
     }
 }
 
-fn put_all(alloc: Global, page: &mut Page, shown: &Shown) -> Result<(), NoMemory> {
-    let spots = spots_of(alloc, shown.facts)?;
+fn put_all(page: &mut Page, shown: &Shown, spots: &[Spot]) {
     page.field(b"<p>longest way through it: ", shown.longest);
-    page.put(b" cycles of delays</p>");
-    put_words(page, shown, spots.as_slice());
+    page.put(b" cycles of delays");
+    put_use(page, shown.machine, shown.trace.placed.length, shown.loads);
+    page.put(b"</p>");
+    put_words(page, shown, spots);
     put_ops(page, shown);
     put_copies(page, shown);
-    Ok(())
 }
 
 fn put_facts(
@@ -177,16 +171,20 @@ fn put_facts(
 ) -> Result<(), NoMemory> {
     let ops = trace.placed.clustered.trace.ops.as_slice();
     let loads = loads_of(alloc, machine, trace.placed.length, ops, facts)?;
+    let spots = spots_of(alloc, facts)?;
+    let bars = bars_of(alloc, facts, spots.as_slice())?;
     let shown = Shown {
         machine,
         names: *names,
         trace: *trace,
         facts,
         loads: loads.as_slice(),
+        bars: bars.as_slice(),
         notes,
         longest: longest(facts),
     };
-    put_all(alloc, page, &shown)
+    put_all(page, &shown, spots.as_slice());
+    Ok(())
 }
 
 /// Puts what stands behind the line of a trace.
@@ -202,7 +200,15 @@ pub fn put_inside(
     put_facts(alloc, page, machine, names, trace, notes, facts.as_slice())
 }
 
-/// Puts a trace: closed, it is one line.
+fn put_cycles(page: &mut Page, cycles: u64) {
+    if cycles > 0 {
+        page.put(b" <small>&middot; cycles ");
+        page.long(cycles);
+        page.put(b"</small>");
+    }
+}
+
+/// Puts a trace, in which a run spends so many cycles: closed, it is one line. A link to it opens it, since what is linked to stands inside.
 pub fn put_trace(
     alloc: Global,
     page: &mut Page,
@@ -210,12 +216,15 @@ pub fn put_trace(
     names: &Names,
     trace: &TraceView,
     notes: &[BlockNote],
+    cycles: u64,
 ) -> Result<(), NoMemory> {
-    page.field(b"<details class=t id=t", trace.number);
+    page.put(b"<details class=t");
     put_colour(page, trace.number);
     page.put(b"><summary>");
     put_name(page, names, trace);
-    page.put(b"</summary>");
+    put_cycles(page, cycles);
+    page.field(b"</summary><a id=t", trace.number);
+    page.put(b"></a>");
     put_inside(alloc, page, machine, names, trace, notes)?;
     page.put(b"</details>\n");
     Ok(())

@@ -2,49 +2,16 @@
 
 ghost use Rattle.std.specs.Prelude.{◌≤◌, length};
 
-use crate::facts::{OpFact, Passed};
+use crate::bars::{lanes_of, put_bars, put_bars_between};
 use crate::loads::{Load, copies_in, load_at};
-use crate::notes::{BlockNote, edges_of, note_of};
-use crate::operations::{put_exit, put_trace_op};
-use crate::page::{Page, small};
 use crate::whys::{Shown, put_why};
-use std::alloc::Global;
-use vx_base::outcome::NoMemory;
 use vx_dep::copies::{EdgeCopies, Rejoin, word_at};
 use vx_flow::graph::Edge;
-
-/// Where an operation stands.
-#[derive(Clone, Copy)]
-pub struct Spot {
-    /// Its word.
-    pub word: u32,
-    /// Its cluster.
-    pub cluster: u32,
-    /// Its place in the trace.
-    pub place: u32,
-}
-
-/// By words, in each by clusters, and there by places.
-fn spot_key(spot: &Spot) -> u64 {
-    u64::from(spot.word)
-        .saturating_mul(17179869184)
-        .saturating_add(u64::from(spot.cluster).saturating_mul(4294967296))
-        .saturating_add(u64::from(spot.place))
-}
-
-/// Where the operations of a trace stand, word by word.
-pub fn spots_of(alloc: Global, facts: &[OpFact]) -> Result<Vec<Spot>, NoMemory> {
-    let mut spots = Vec::new(alloc);
-    for (place, fact) in facts.iter().enumerate() {
-        spots.push(Spot {
-            word: fact.word,
-            cluster: fact.cluster,
-            place: small(place),
-        })?;
-    }
-    spots.sort_unstable_by_key(spot_key);
-    Ok(spots)
-}
+use vx_page::facts::{OpFact, Passed};
+use vx_page::notes::{BlockNote, edges_of, note_of};
+use vx_page::operations::{put_exit, put_trace_op};
+use vx_page::page::Page;
+use vx_page::spots::Spot;
 
 /// How many of the first of these stand in a word.
 fn count_in_word(spots: &[Spot], word: u32) -> usize
@@ -94,9 +61,14 @@ fn behind_cluster(spots: &[Spot], cluster: u32) -> &[Spot] {
     &spots[count..]
 }
 
+/// The hue of a number, in degrees.
+pub(crate) fn hue_of(number: u32) -> u32 {
+    number.wrapping_mul(47) % 360
+}
+
 /// The colour of a number.
 pub(crate) fn put_colour(page: &mut Page, number: u32) {
-    page.field(b" style=--h:", number.wrapping_mul(47) % 360);
+    page.field(b" style=--h:", hue_of(number));
 }
 
 fn put_classes(page: &mut Page, shown: &Shown, fact: &OpFact) {
@@ -183,6 +155,13 @@ fn put_units(page: &mut Page, shown: &Shown, load: &Load) {
         load.memory_units,
         shown.machine.memory_units(),
     );
+    put_used(page, b"reads", load.read_ports, shown.machine.read_ports());
+    put_used(
+        page,
+        b"writes",
+        load.write_ports,
+        shown.machine.write_ports(),
+    );
     page.put(b"</small>");
 }
 
@@ -202,7 +181,7 @@ fn put_cell(page: &mut Page, shown: &Shown, word: u32, cluster: u32, here: &[Spo
 fn put_copies_cell(page: &mut Page, shown: &Shown, word: u32) {
     let clusters = shown.machine.clusters();
     if clusters > 1 {
-        page.put(b"<td><p class=f><small>");
+        page.put(b"<td class=k><p class=f><small>");
         put_used(
             page,
             b"copies",
@@ -216,6 +195,7 @@ fn put_copies_cell(page: &mut Page, shown: &Shown, word: u32) {
 fn put_full_row(page: &mut Page, shown: &Shown, word: u32, here: &[Spot]) {
     let mut rest = here;
     page.field(b"<tr><th>", word);
+    put_bars(page, shown, word);
     for cluster in 0..shown.machine.clusters() {
         put_cell(page, shown, word, cluster, on_cluster(rest, cluster));
         rest = behind_cluster(rest, cluster);
@@ -240,6 +220,7 @@ fn put_span(page: &mut Page, shown: &Shown) {
 
 fn put_empty_row(page: &mut Page, shown: &Shown, word: u32, behind: &[Spot]) {
     page.field(b"<tr class=e><th>", word);
+    put_bars(page, shown, word);
     put_span(page, shown);
     match behind.first() {
         Some(spot) => {
@@ -269,6 +250,7 @@ fn put_places(page: &mut Page, places: &[u32]) {
 fn put_entry(page: &mut Page, shown: &Shown, rejoin: &Rejoin) {
     let joins = shown.trace.placed.clustered.trace.joins.as_slice();
     page.put(b"<tr class=j><th>&#8627;");
+    put_bars_between(page, shown, rejoin.word);
     put_span(page, shown);
     page.field(b"join of block ", rejoin.block);
     page.put(b": entered by");
@@ -286,8 +268,9 @@ fn put_entries(page: &mut Page, shown: &Shown, word: u32) {
     }
 }
 
-fn put_leave(page: &mut Page, shown: &Shown, split: &EdgeCopies) {
+fn put_leave(page: &mut Page, shown: &Shown, word: u32, split: &EdgeCopies) {
     page.put(b"<tr class=l><th>&#8626;");
+    put_bars_between(page, shown, word.saturating_add(1));
     put_span(page, shown);
     page.field(b"branch ", split.split);
     page.put(b" leaves by the edge");
@@ -302,13 +285,17 @@ fn put_leaves(page: &mut Page, shown: &Shown, word: u32) {
     let words = shown.trace.placed.words.as_slice();
     for split in shown.trace.splits {
         if word_at(words, split.split) == word {
-            put_leave(page, shown, split);
+            put_leave(page, shown, word, split);
         }
     }
 }
 
 fn put_heads(page: &mut Page, shown: &Shown) {
     page.put(b"<tr><th>word");
+    if !shown.bars.is_empty() {
+        page.field(b"<th class=r style=--l:", lanes_of(shown.bars));
+        page.put(b">in flight");
+    }
     for cluster in 0..shown.machine.clusters() {
         page.field(b"<th>cluster ", cluster);
     }
@@ -338,6 +325,7 @@ fn put_made_exit(page: &mut Page, note: BlockNote) {
 fn put_end(page: &mut Page, shown: &Shown) {
     if let Some(last) = shown.trace.blocks.last() {
         page.put(b"<tr class=x><th>&#8629;");
+        put_bars_between(page, shown, shown.trace.placed.length);
         put_span(page, shown);
         page.field(b"end of block ", *last);
         page.put(b": ");

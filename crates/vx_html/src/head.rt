@@ -1,9 +1,9 @@
 // What stands on the page in front of the traces: its name, the source with numbers of lines, the machine, what was asked, the sums, and
 // what the marks mean.
 
-use crate::page::Page;
 use crate::style::put_style;
 use vx_machine::Machine;
+use vx_page::page::Page;
 
 /// The sums of a compiled program, as its report has them.
 #[derive(Clone, Copy)]
@@ -50,7 +50,7 @@ pub fn put_front(page: &mut Page, asked: &Asked) {
     page.put(b"<h1>");
     page.source(asked.source);
     page.put(
-        b"</h1><nav><a href=#source>source</a><a href=#machine>machine</a><a href=#marks>marks</a><a href=#blocks>blocks</a><a href=#traces>traces</a></nav>\n",
+        b"</h1><nav><a href=#source>source</a><a href=#machine>machine</a><a href=#marks>marks</a><a href=#time>time</a><a href=#blocks>blocks</a><a href=#traces>traces</a></nav>\n",
     );
 }
 
@@ -165,7 +165,7 @@ pub fn put_machine(page: &mut Page, machine: &Machine) {
 /// Puts what the marks of the tables mean.
 pub fn put_marks(page: &mut Page) {
     page.put(
-        b"<h2 id=marks>Marks</h2><details><summary>how to read a trace</summary><ul><li>A row is a word, a column a cluster. Each operation has its number in the trace, its block, and the word in which its result has landed. Its colour is that of its block. A dashed box is an empty slot; units in use stand beside it, those all in use in red.",
+        b"<h2 id=marks>Marks</h2><details><summary>how to read a trace</summary><ul><li>A row is a word, a column a cluster. Each operation has its number in the trace, its block, and the word in which its result has landed. Its colour is that of its block. A dashed box is an empty slot; units and ports in use stand beside it, those all in use in red. A bar with the number of an operation runs from its word to the last in which its result has not landed.",
     );
     page.put(
         b"<li><b>&uarr;7</b> was moved above the branch 7, which stood before it. <b>&darr;7</b> was moved below the branch 7, and is copied onto its edge. <b>&uarr;block 7</b> was moved above the place where edges enter block 7, and is copied onto each. <b>&times;3</b> says that it passed so many, this one first. <b>copy</b> brings a value to another cluster. <b>dismissible</b> may load from outside of its array, where a branch above it would have left.",

@@ -1,12 +1,12 @@
 // Two machines side by side: the sums of both, and trace by trace what each made of the same blocks.
 
 use crate::head::{Asked, Totals};
-use crate::operations::put_function;
-use crate::page::Page;
 use crate::traces::{copies_of, put_name};
-use crate::view::{Names, TraceView};
 use crate::words::put_colour;
 use vx_flow::graph::BlockId;
+use vx_page::operations::put_function;
+use vx_page::page::Page;
+use vx_page::view::{Names, TraceView};
 
 /// Whether two traces are of the same blocks.
 pub fn agree(one: &TraceView, other: &TraceView) -> bool {

@@ -1,11 +1,11 @@
 // The blocks of a function on the page: the operations of each, in the colour of the trace that took it, and those that were made.
 
-use crate::notes::{BlockNote, MadeAt, note_of};
-use crate::operations::{put_exit, put_function, put_op};
-use crate::page::{Page, small};
-use crate::view::Names;
 use crate::words::put_colour;
 use vx_flow::graph::{Block, Graph};
+use vx_page::notes::{BlockNote, MadeAt, note_of};
+use vx_page::operations::{put_exit, put_function, put_op};
+use vx_page::page::{Page, small};
+use vx_page::view::Names;
 use vx_profile::counts::Counts;
 
 fn put_owner(page: &mut Page, owner: Option<u32>) {

@@ -1,12 +1,12 @@
 // How much of a machine the operations of a trace take, word by word and cluster by cluster.
 
-use crate::facts::OpFact;
 use std::alloc::Global;
 use vx_base::outcome::NoMemory;
 use vx_flow::trace::TraceOp;
 use vx_isa::operation::UnitKind;
 use vx_machine::Machine;
 use vx_machine::items::Item;
+use vx_page::facts::OpFact;
 
 /// What operations take of one cluster in one word.
 #[derive(Clone, Copy)]
@@ -32,7 +32,7 @@ pub struct Load {
 }
 
 /// Nothing taken.
-const FREE: Load = Load {
+pub(crate) const FREE: Load = Load {
     slots: 0,
     alus: 0,
     multipliers: 0,
