@@ -73,18 +73,18 @@ ahead = graph
     ∷ [])
 
 abbrev one : Graph
-one = raised loop 1
+one = raised loop 1 1
 
 abbrev two : Graph
-two = raised one 2
+two = raised one 2 2
 
 abbrev three : Graph
-three = raised two 2
+three = raised two 2 2
 
 abbrev four : Graph
-four = raised three 1
+four = raised three 1 1
 
-pub five_steps : raised four 1 ≡ ahead
+pub five_steps : raised four 1 1 ≡ ahead
 five_steps = refl
 
 -- what is live at the start of each block
@@ -95,27 +95,27 @@ rows live b v = list_any (λ u. u == v) (slice_index_or live b [])
 abbrev live : List ℕ → List ℕ → ℕ → ℕ → Bool
 live head body = rows ([] ∷ head ∷ body ∷ (1 ∷ []) ∷ [])
 
-pub can_one : can_raise (live (0 ∷ 1 ∷ []) (0 ∷ 1 ∷ [])) loop 1 ≡ true
+pub can_one : can_raise (live (0 ∷ 1 ∷ []) (0 ∷ 1 ∷ [])) loop 1 1 ≡ true
 can_one = refl
 
-pub can_two : can_raise (live (0 ∷ 1 ∷ 2 ∷ []) (0 ∷ 1 ∷ [])) one 2 ≡ true
+pub can_two : can_raise (live (0 ∷ 1 ∷ 2 ∷ []) (0 ∷ 1 ∷ [])) one 2 2 ≡ true
 can_two = refl
 
-pub can_three : can_raise (live (0 ∷ 1 ∷ 2 ∷ []) (0 ∷ 1 ∷ 3 ∷ [])) two 2 ≡ true
+pub can_three : can_raise (live (0 ∷ 1 ∷ 2 ∷ []) (0 ∷ 1 ∷ 3 ∷ [])) two 2 2 ≡ true
 can_three = refl
 
-pub can_four : can_raise (live (0 ∷ 1 ∷ 2 ∷ []) (0 ∷ 1 ∷ 4 ∷ [])) three 1 ≡ true
+pub can_four : can_raise (live (0 ∷ 1 ∷ 2 ∷ []) (0 ∷ 1 ∷ 4 ∷ [])) three 1 1 ≡ true
 can_four = refl
 
-pub can_five : can_raise (live (0 ∷ 1 ∷ 2 ∷ 3 ∷ []) (0 ∷ 1 ∷ 4 ∷ [])) four 1 ≡ true
+pub can_five : can_raise (live (0 ∷ 1 ∷ 2 ∷ 3 ∷ []) (0 ∷ 1 ∷ 4 ∷ [])) four 1 1 ≡ true
 can_five = refl
 
 -- the sum is read behind the loop, so that adding may not be raised over the test, nor may a value be that the test is of
-pub sum_is_read : can_raise (live (0 ∷ 1 ∷ 2 ∷ 4 ∷ []) (0 ∷ 1 ∷ 4 ∷ [])) ahead 2 ≡ false
+pub sum_is_read : can_raise (live (0 ∷ 1 ∷ 2 ∷ 4 ∷ []) (0 ∷ 1 ∷ 4 ∷ [])) ahead 2 2 ≡ false
 sum_is_read = refl
 
 -- nor is the first block, nor one that a call leads to
-pub first_stays : can_raise (live [] []) loop 0 ≡ false
+pub first_stays : can_raise (live [] []) loop 0 0 ≡ false
 first_stays = refl
 
 -- what comes out is sound and has its shape, and both do the same
@@ -137,7 +137,7 @@ sums_ahead = refl
 -- the same as a row of moves, tested by what is live in the loop that came; the place may pass nothing, the load passes no store
 
 abbrev move : ℕ → ℕ → Move
-move b k = record { block = b; place = k }
+move b k = record { block = b; place = k; other = b; other_place = k }
 
 abbrev moves : List Move
 moves = move 1 0 ∷ move 2 0 ∷ move 2 0 ∷ move 1 0 ∷ move 1 0 ∷ []
@@ -176,10 +176,10 @@ write = Compute Mov 0 (Number (pos 9)) (Number (pos 0))
 pub side_is_kept : graph_run (flow (forks [] (write ∷ []))) [] 2 ≡ Outcome.Ends (pos 5) []
 side_is_kept = refl
 
-pub side_is_lost : graph_run (flow (raised (forks [] (write ∷ [])) 1)) [] 2 ≡ Outcome.Ends (pos 9) []
+pub side_is_lost : graph_run (flow (raised (forks [] (write ∷ [])) 1 1)) [] 2 ≡ Outcome.Ends (pos 9) []
 side_is_lost = refl
 
-pub side_is_refused : can_raise (rows ([] ∷ [] ∷ (0 ∷ []) ∷ [])) (forks [] (write ∷ [])) 1 ≡ false
+pub side_is_refused : can_raise (rows ([] ∷ [] ∷ (0 ∷ []) ∷ [])) (forks [] (write ∷ [])) 1 1 ≡ false
 side_is_refused = refl
 
 abbrev test : Op
@@ -195,8 +195,52 @@ test_forks = graph
 pub test_is_kept : graph_run (flow test_forks) [] 2 ≡ Outcome.Ends (pos 0) []
 test_is_kept = refl
 
-pub test_is_lost : graph_run (flow (raised test_forks 1)) [] 2 ≡ Outcome.Ends (pos 1) []
+pub test_is_lost : graph_run (flow (raised test_forks 1 1)) [] 2 ≡ Outcome.Ends (pos 1) []
 test_is_lost = refl
 
-pub test_is_refused : can_raise (rows []) test_forks 1 ≡ false
+pub test_is_refused : can_raise (rows []) test_forks 1 1 ≡ false
 test_is_refused = refl
+
+-- ---- one operation of both ways of a split: it is read behind both, and yet may end the block that splits
+
+abbrev ways : List Op → List Op → List Op → Graph
+ways above first second = graph
+    (block (Compute Mov 0 (Number (pos 5)) (Number (pos 0)) ∷ Compute (ToBranch Lt) 2 (Held 0) (Number (pos 4)) ∷ above) (Split 2 1 2)
+    ∷ block first (Goto 3)
+    ∷ block second (Goto 3)
+    ∷ block [] (Return (Held 0))
+    ∷ [])
+
+abbrev read_behind : ℕ → ℕ → Bool
+read_behind = rows ([] ∷ (0 ∷ []) ∷ (0 ∷ []) ∷ (0 ∷ []) ∷ [])
+
+pub both_ways_raised : raised (ways [] (count ∷ []) (count ∷ begin_sum ∷ [])) 1 2 ≡ ways (count ∷ []) [] (begin_sum ∷ [])
+both_ways_raised = refl
+
+pub can_both_ways : can_raise read_behind (ways [] (count ∷ []) (count ∷ begin_sum ∷ [])) 1 2 ≡ true
+can_both_ways = refl
+
+pub one_way_is_refused : can_raise read_behind (ways [] (count ∷ []) (count ∷ begin_sum ∷ [])) 1 1 ≡ false
+one_way_is_refused = refl
+
+pub other_way_is_refused : can_raise read_behind (ways [] (count ∷ []) (begin_sum ∷ [])) 1 2 ≡ false
+other_way_is_refused = refl
+
+-- past what stands before it in the second
+abbrev both : Move
+both = record { block = 1; place = 0; other = 2; other_place = 1 }
+
+pub can_past : can_lift_all read_behind (ways [] (count ∷ []) (begin_sum ∷ count ∷ [])) (both ∷ []) ≡ true
+can_past = refl
+
+pub raised_past : all_lifted (ways [] (count ∷ []) (begin_sum ∷ count ∷ [])) (both ∷ []) ≡ ways (count ∷ []) [] (begin_sum ∷ [])
+raised_past = refl
+
+-- were it in one way alone, the other would end otherwise
+pub way_is_kept : graph_run (flow (ways [] (count ∷ []) [])) [] 3 ≡ Outcome.Ends (pos 5) []
+unfolding int_wrap sum_of product_of
+way_is_kept = refl
+
+pub way_is_lost : graph_run (flow (raised (ways [] (count ∷ []) []) 1 2)) [] 3 ≡ Outcome.Ends (pos 6) []
+unfolding int_wrap sum_of product_of
+way_is_lost = refl

@@ -1,7 +1,7 @@
 -- What is live in a graph with an operation raised, or with two exchanged, was live before; besides the value that the raised
--- operation writes, at the block that lost it.
+-- operation writes, at the blocks that lost it.
 use Rattle.std.proofs.Common.{◌≡◌, inl, inr, ℕ, zero, suc, ◌==◌, ◌&&◌, ◌||◌, Bool, true, false, cond, nat_lt, List, [], ◌∷◌, ◌++◌, length, slice_get, Option, Some, None, refl, sym, ap, ◌∙◌, subst, eq-eqb}
-use Rattle.std.proofs.lemmas.Bool.{and_parts, false≢true, eqb-true}
+use Rattle.std.proofs.lemmas.Bool.{and_parts, false≢true}
 use Rattle.std.specs.Option.{option_map}
 use Rattle.std.specs.Prelude.{not}
 use Rattle.vx_flow.specs.declared.graph.Op.{Op}
@@ -14,12 +14,12 @@ use Rattle.vx_flow.specs.Live.{IsLive, here, beyond, ReadsFirst, NeverWrites}
 use Rattle.vx_flow.specs.Sound.{targets_of, results_of_exit}
 use Rattle.vx_flow.proofs.SoundLists.{all_at}
 use Rattle.vx_shape.proofs.Pairs.{At, each_at}
-use Rattle.vx_raise.specs.Raising.{leads_to, behind_first, raised_block, raised_blocks, raised, lets_in, takes_in}
+use Rattle.vx_raise.specs.Raising.{is_either, leads_to, behind_first, raised_block, raised_blocks, raised, lets_in, takes_in}
 use Rattle.vx_raise.specs.Exchanging.{exchanged_ops, exchanged_blocks, exchanged, can_exchange_ops, can_exchange}
 use Rattle.vx_raise.specs.Lifting.{live_behind}
-use Rattle.vx_raise.proofs.Written.{dismissed_reads, dismissed_writes}
+use Rattle.vx_raise.proofs.Written.{dismissed_writes}
 use Rattle.vx_raise.proofs.Passing.{Apart, apart_of, result_written}
-use Rattle.vx_raise.proofs.Raises.{Front, block_here, LiveIn, live_later, live_at, live_front}
+use Rattle.vx_raise.proofs.Raises.{Front, block_here, LiveIn, live_later, live_at, LiveBehind, reads_live, behind_live}
 use Rattle.vx_raise.proofs.Exchanges.{BlockExchanged, each_exchanged}
 
 -- ---- exchanged
@@ -82,84 +82,81 @@ exchanged_live g b k h _ _ (beyond {b = c} {c = d} {v = u} {block} e n m l) =
 
 -- ---- raised
 
-target_is : (b : ℕ) (exit : Exit) → leads_to b exit ≡ true → IsIn b (targets_of exit)
-target_is b (Goto c) h = inl (sym (eqb-true c b h))
-target_is b (Split p c d) h = by (c == b) refl h
+target_is : (from : ℕ → Bool) (exit : Exit) → leads_to from exit ≡ true → (c : ℕ) × (from c ≡ true) × IsIn c (targets_of exit)
+target_is from (Goto c) h = (c, h, inl refl)
+target_is from (Split p c d) h = by (from c) refl h
   where
-    by : (q : Bool) → (c == b) ≡ q → (q || (d == b)) ≡ true → IsIn b (c ∷ d ∷ [])
-    by true q h = inl (sym (eqb-true c b q))
-    by false q h = inr (inl (sym (eqb-true d b h)))
-target_is b (Call f arguments result c) h = inl (sym (eqb-true c b h))
-target_is b (Return x) h = absurd (false≢true h)
-target_is b (Ends k) h = absurd (false≢true h)
+    by : (q : Bool) → from c ≡ q → (q || from d) ≡ true → (x : ℕ) × (from x ≡ true) × IsIn x (c ∷ d ∷ [])
+    by true q h = (c, q, inl refl)
+    by false q h = (d, h, inr (inl refl))
+target_is from (Call f arguments result c) h = (c, h, inl refl)
+target_is from (Return x) h = absurd (false≢true h)
+target_is from (Ends k) h = absurd (false≢true h)
 
-no_results : (live : ℕ → ℕ → Bool) (b v : ℕ) (exit : Exit) → lets_in live b v exit ≡ true → (u : ℕ) → IsIn u (results_of_exit exit) → ⊥
-no_results live b v (Goto c) h u m = m
-no_results live b v (Split p c d) h u m = m
-no_results live b v (Call f arguments result c) h u m = false≢true h
-no_results live b v (Return x) h u m = false≢true h
-no_results live b v (Ends k) h u m = false≢true h
+no_results : (live : ℕ → ℕ → Bool) (from : ℕ → Bool) (v : ℕ) (exit : Exit) → lets_in live from v exit ≡ true → (u : ℕ) → IsIn u (results_of_exit exit) → ⊥
+no_results live from v (Goto c) h u m = m
+no_results live from v (Split p c d) h u m = m
+no_results live from v (Call f arguments result c) h u m = false≢true h
+no_results live from v (Return x) h u m = false≢true h
+no_results live from v (Ends k) h u m = false≢true h
 
-target_other : (b c : ℕ) (exit : Exit) → leads_to b exit ≡ false → IsIn c (targets_of exit) → (c == b) ≡ false
-target_other b c (Goto d) h (inl e) = subst (λ x. (x == b) ≡ false) (sym e) h
-target_other b c (Goto d) h (inr m) = absurd m
-target_other b c (Split p d f) h m = by (d == b) refl h m
+target_other : (from : ℕ → Bool) (c : ℕ) (exit : Exit) → leads_to from exit ≡ false → IsIn c (targets_of exit) → from c ≡ false
+target_other from c (Goto d) h (inl e) = subst (λ x. from x ≡ false) (sym e) h
+target_other from c (Goto d) h (inr m) = absurd m
+target_other from c (Split p d f) h m = by (from d) refl h m
   where
-    by : (q : Bool) → (d == b) ≡ q → (q || (f == b)) ≡ false → IsIn c (d ∷ f ∷ []) → (c == b) ≡ false
+    by : (q : Bool) → from d ≡ q → (q || from f) ≡ false → IsIn c (d ∷ f ∷ []) → from c ≡ false
     by true q h m = absurd (false≢true (sym h))
-    by false q h (inl e) = subst (λ x. (x == b) ≡ false) (sym e) q
-    by false q h (inr (inl e)) = subst (λ x. (x == b) ≡ false) (sym e) h
+    by false q h (inl e) = subst (λ x. from x ≡ false) (sym e) q
+    by false q h (inr (inl e)) = subst (λ x. from x ≡ false) (sym e) h
     by false q h (inr (inr m)) = absurd m
-target_other b c (Call f arguments result d) h (inl e) = subst (λ x. (x == b) ≡ false) (sym e) h
-target_other b c (Call f arguments result d) h (inr m) = absurd m
-target_other b c (Return x) h m = absurd m
-target_other b c (Ends k) h m = absurd m
+target_other from c (Call f arguments result d) h (inl e) = subst (λ x. from x ≡ false) (sym e) h
+target_other from c (Call f arguments result d) h (inr m) = absurd m
+target_other from c (Return x) h m = absurd m
+target_other from c (Ends k) h m = absurd m
 
-module _ (live : ℕ → ℕ → Bool) (g : Graph) (b : ℕ) (front : Front live g b) where
+module _ (live : ℕ → ℕ → Bool) (g : Graph) (b b' : ℕ) (front : Front live g b b') where
+  abbrev from : ℕ → Bool
+  from = is_either b b'
+
+  abbrev moved : Op
+  moved = dismissed front.op
+
   abbrev last : Exit → List Op
-  last exit = cond (leads_to b exit) (dismissed front.op ∷ []) []
+  last exit = cond (leads_to from exit) (moved ∷ []) []
 
   abbrev Lasting : Bool → ℕ → ℕ → Type 0
-  Lasting true c u = LiveIn g front.rest front.block.exit u
+  Lasting true c u = LiveBehind g c u
   Lasting false c u = IsLive g c u
 
   abbrev Lasts : ℕ → ℕ → Type 0
-  Lasts c u = Lasting (c == b) c u
+  Lasts c u = Lasting (from c) c u
 
-  front_reads : (u : ℕ) → IsIn u (reads (dismissed front.op)) → IsLive g b u
-  front_reads u m = live_front live g b front u (inl (inl (subst (IsIn u) (dismissed_reads front.op) m)))
+  module _ (room : ℕ) (exit : Exit) (takes : (not (leads_to from exit) || (lets_in live from front.value exit && nat_lt room 512)) ≡ true) where
+    lets : leads_to from exit ≡ true → lets_in live from front.value exit ≡ true
+    lets h = (and_parts (lets_in live from front.value exit) (nat_lt room 512) (subst (λ q. (not q || (lets_in live from front.value exit && nat_lt room 512)) ≡ true) h takes)).0
 
-  front_leaves : (u : ℕ) → (IsIn u (writes front.op) → ⊥) → LiveIn g front.rest front.block.exit u → IsLive g b u
-  front_leaves u k l = live_front live g b front u (live_later g front.op front.rest front.block.exit u l k)
-
-  module _ (room : ℕ) (exit : Exit) (takes : (not (leads_to b exit) || (lets_in live b front.value exit && nat_lt room 512)) ≡ true) where
-    lets : leads_to b exit ≡ true → lets_in live b front.value exit ≡ true
-    lets h = (and_parts (lets_in live b front.value exit) (nat_lt room 512) (subst (λ q. (not q || (lets_in live b front.value exit && nat_lt room 512)) ≡ true) h takes)).0
-
-    leading : (c u : ℕ) → leads_to b exit ≡ true → IsIn c (targets_of exit) → IsLive g c u → LiveIn g [] exit u
-    leading c u h m l = inr (record { unwritten = no_results live b front.value exit (lets h) u; target = c; leads = m; live = l })
+    leading : (c u : ℕ) → leads_to from exit ≡ true → IsIn c (targets_of exit) → IsLive g c u → LiveIn g [] exit u
+    leading c u h m l = inr (record { unwritten = no_results live from front.value exit (lets h) u; target = c; leads = m; live = l })
 
     end_reads : (u : ℕ) → ReadsFirst (last exit) exit u → LiveIn g [] exit u
-    end_reads u r = by (leads_to b exit) refl r
+    end_reads u r = by (leads_to from exit) refl r
       where
-        by : (q : Bool) → leads_to b exit ≡ q → ReadsFirst (cond q (dismissed front.op ∷ []) []) exit u → LiveIn g [] exit u
-        by true q (inl m) = leading b u q (target_is b exit q) (front_reads u m)
+        by : (q : Bool) → leads_to from exit ≡ q → ReadsFirst (cond q (moved ∷ []) []) exit u → LiveIn g [] exit u
+        by true q (inl m) = let to = target_is from exit q in leading to.0 u q to.2 (reads_live moved g to.0 u (front.begins to.0 to.1) m)
         by true q (inr (k, m)) = inl m
         by false q r = inl r
 
     end_never : (d u : ℕ) → NeverWrites (last exit) exit u → IsIn d (targets_of exit) → Lasts d u → LiveIn g [] exit u
-    end_never d u n m l = by (leads_to b exit) refl n
+    end_never d u n m l = by (leads_to from exit) refl n
       where
-        written : NeverWrites (dismissed front.op ∷ []) exit u → IsIn u (writes front.op) → ⊥
-        written n w = n.0 (subst (IsIn u) (sym (dismissed_writes front.op)) w)
-
-        at : (q : Bool) → (d == b) ≡ q → NeverWrites (dismissed front.op ∷ []) exit u → Lasting q d u → IsLive g d u
-        at true q n l = subst (λ x. IsLive g x u) (sym (eqb-true d b q)) (front_leaves u (written n) l)
+        at : (q : Bool) → from d ≡ q → NeverWrites (moved ∷ []) exit u → Lasting q d u → IsLive g d u
+        at true q n l = behind_live moved g d u (front.begins d q) n.0 l
         at false q n l = l
 
-        by : (q : Bool) → leads_to b exit ≡ q → NeverWrites (cond q (dismissed front.op ∷ []) []) exit u → LiveIn g [] exit u
-        by true q n = leading d u q m (at (d == b) refl n l)
-        by false q n = inr (record { unwritten = n; target = d; leads = m; live = subst (λ x. Lasting x d u) (target_other b d exit q m) l })
+        by : (q : Bool) → leads_to from exit ≡ q → NeverWrites (cond q (moved ∷ []) []) exit u → LiveIn g [] exit u
+        by true q n = leading d u q m (at (from d) refl n l)
+        by false q n = inr (record { unwritten = n; target = d; leads = m; live = subst (λ x. Lasting x d u) (target_other from d exit q m) l })
 
     ops_read : (ops : List Op) (u : ℕ) → ReadsFirst (ops ++ last exit) exit u → LiveIn g ops exit u
     ops_read [] u r = end_reads u r
@@ -173,50 +170,43 @@ module _ (live : ℕ → ℕ → Bool) (g : Graph) (b : ℕ) (front : Front live
   record WasAt (c : ℕ) (new : Block) : Type 0 where
     pub block : Block
     pub has : slice_get g.blocks c ≡ Some block
-    pub is : new ≡ raised_block b front.op c block
+    pub is : new ≡ raised_block from front.op c block
 
-  was_at : (c : ℕ) (new : Block) → slice_get (raised_blocks b front.op 0 g.blocks) c ≡ Some new → WasAt c new
-  was_at c new e = by (slice_get g.blocks c) refl (sym (block_here b front.op g.blocks c) ∙ e)
+  was_at : (c : ℕ) (new : Block) → slice_get (raised_blocks from front.op 0 g.blocks) c ≡ Some new → WasAt c new
+  was_at c new e = by (slice_get g.blocks c) refl (sym (block_here from front.op g.blocks c) ∙ e)
     where
-      by : (o : Option Block) → slice_get g.blocks c ≡ o → option_map (raised_block b front.op c) o ≡ Some new → WasAt c new
+      by : (o : Option Block) → slice_get g.blocks c ≡ o → option_map (raised_block from front.op c) o ≡ Some new → WasAt c new
       by None q d = absurd (cc)
       by (Some block) q d = record { block = block; has = q; is = cc }
 
-  front_is : (c : ℕ) (block : Block) → slice_get g.blocks c ≡ Some block → (c == b) ≡ true → block ≡ front.block
-  front_is c block e q =
-      let same : ◌≡◌ {A = Option Block} (Some block) (Some front.block) = sym e ∙ ap (slice_get g.blocks) (eqb-true c b q) ∙ front.has in
-      cc
-
-  lasts_at : (c u : ℕ) (block : Block) → slice_get g.blocks c ≡ Some block → LiveIn g (cond (c == b) (behind_first block.ops) block.ops) block.exit u → Lasts c u
-  lasts_at c u block e l = by (c == b) refl l
+  lasts_at : (c u : ℕ) (block : Block) → slice_get g.blocks c ≡ Some block → LiveIn g (cond (from c) (behind_first block.ops) block.ops) block.exit u → Lasts c u
+  lasts_at c u block e l = by (from c) l
     where
-      by : (q : Bool) → (c == b) ≡ q → LiveIn g (cond q (behind_first block.ops) block.ops) block.exit u → Lasting q c u
-      by true q l =
-          let at_front : LiveIn g (behind_first front.block.ops) front.block.exit u = subst (λ (z : Block). LiveIn g (behind_first z.ops) z.exit u) (front_is c block e q) l in
-          subst (λ ops. LiveIn g (behind_first ops) front.block.exit u) front.ops at_front
-      by false q l = live_at g c block u e l
+      by : (q : Bool) → LiveIn g (cond q (behind_first block.ops) block.ops) block.exit u → Lasting q c u
+      by true l = (block, e, l)
+      by false l = live_at g c block u e l
 
-  takes_at : (c : ℕ) (block : Block) → slice_get g.blocks c ≡ Some block → takes_in live b front.value block ≡ true
-  takes_at c block e = all_at (takes_in live b front.value) g.blocks c block front.takes e
+  takes_at : (c : ℕ) (block : Block) → slice_get g.blocks c ≡ Some block → takes_in live from front.value block ≡ true
+  takes_at c block e = all_at (takes_in live from front.value) g.blocks c block front.takes e
 
   abbrev after : Graph
-  after = record g { blocks = raised_blocks b front.op 0 g.blocks }
+  after = record g { blocks = raised_blocks from front.op 0 g.blocks }
 
   lasts : (c u : ℕ) → IsLive after c u → Lasts c u
   lasts _ _ (here {b = c} {v = u} {block} e r) =
       let w : WasAt c block = was_at c block e in
       let old : Block = w.block in
-      let q : ReadsFirst (cond (c == b) (behind_first old.ops) old.ops ++ last old.exit) old.exit u = subst (λ (z : Block). ReadsFirst z.ops z.exit u) w.is r in
-      lasts_at c u old w.has (ops_read (length old.ops) old.exit (takes_at c old w.has) (cond (c == b) (behind_first old.ops) old.ops) u q)
+      let q : ReadsFirst (cond (from c) (behind_first old.ops) old.ops ++ last old.exit) old.exit u = subst (λ (z : Block). ReadsFirst z.ops z.exit u) w.is r in
+      lasts_at c u old w.has (ops_read (length old.ops) old.exit (takes_at c old w.has) (cond (from c) (behind_first old.ops) old.ops) u q)
   lasts _ _ (beyond {b = c} {c = d} {v = u} {block} e n m l) =
       let w : WasAt c block = was_at c block e in
       let old : Block = w.block in
-      let q : NeverWrites (cond (c == b) (behind_first old.ops) old.ops ++ last old.exit) old.exit u = subst (λ (z : Block). NeverWrites z.ops z.exit u) w.is n in
+      let q : NeverWrites (cond (from c) (behind_first old.ops) old.ops ++ last old.exit) old.exit u = subst (λ (z : Block). NeverWrites z.ops z.exit u) w.is n in
       let to : IsIn d (targets_of old.exit) = subst (λ (z : Block). IsIn d (targets_of z.exit)) w.is m in
-      lasts_at c u old w.has (ops_never (length old.ops) old.exit (takes_at c old w.has) (cond (c == b) (behind_first old.ops) old.ops) d u q to (lasts d u l))
+      lasts_at c u old w.has (ops_never (length old.ops) old.exit (takes_at c old w.has) (cond (from c) (behind_first old.ops) old.ops) d u q to (lasts d u l))
 
-  pub raised_live : ((c u : ℕ) → IsLive g c u → live c u ≡ true) → (h : Graph) → h ≡ raised g b → (c u : ℕ) → IsLive h c u → live_behind live b (Some front.value) c u ≡ true
-  raised_live covers h e c u l = by (c == b) refl (lasts c u (subst (λ z. IsLive z c u) (e ∙ front.is) l))
+  pub raised_live : ((c u : ℕ) → IsLive g c u → live c u ≡ true) → (h : Graph) → h ≡ raised g b b' → (c u : ℕ) → IsLive h c u → live_behind live from (Some front.value) c u ≡ true
+  raised_live covers h e c u l = by (from c) refl (lasts c u (subst (λ z. IsLive z c u) (e ∙ front.is) l))
     where
       or_right : (x : Bool) → (x || true) ≡ true
       or_right true = refl
@@ -225,12 +215,12 @@ module _ (live : ℕ → ℕ → Bool) (g : Graph) (b : ℕ) (front : Front live
       marked : (x : Bool) → live c u ≡ true → (x || live c u) ≡ true
       marked x h = ap (λ z. x || z) h ∙ or_right x
 
-      written : (same : Bool) → (u == front.value) ≡ same → (c == b) ≡ true → LiveIn g front.rest front.block.exit u → ((true && same) || live c u) ≡ true
+      written : (same : Bool) → (u == front.value) ≡ same → from c ≡ true → LiveBehind g c u → ((true && same) || live c u) ≡ true
       written true q p l = refl
       written false q p l =
-          let unwritten : IsIn u (writes front.op) → ⊥ = λ m. elim (subst (IsIn u) (result_written front.op front.value front.result) m) [ inl i ↦ false≢true (sym q ∙ eq-eqb u front.value i) | inr z ↦ absurd z ] in
-          covers c u (subst (λ x. IsLive g x u) (sym (eqb-true c b p)) (front_leaves u unwritten l))
+          let unwritten : IsIn u (writes moved) → ⊥ = λ m. elim (subst (IsIn u) (dismissed_writes front.op ∙ result_written front.op front.value front.result) m) [ inl i ↦ false≢true (sym q ∙ eq-eqb u front.value i) | inr z ↦ absurd z ] in
+          covers c u (behind_live moved g c u (front.begins c p) unwritten l)
 
-      by : (q : Bool) → (c == b) ≡ q → Lasting q c u → ((q && (u == front.value)) || live c u) ≡ true
+      by : (q : Bool) → from c ≡ q → Lasting q c u → ((q && (u == front.value)) || live c u) ≡ true
       by true q l = written (u == front.value) refl q l
       by false q l = marked (false && (u == front.value)) (covers c u l)

@@ -21,12 +21,12 @@ use Rattle.vx_raise.proofs.Shapes.{exchanged_kept, raised_kept}
 
 abbrev step_tie : (g h : Graph) → OrSame GraphStep g h → Setting → ℕ → State → State → Type 0
 step_tie g h (inl e) = all_tie
-step_tie g h (inr (inl r)) = tie r.live g r.block (front_of r.live g r.block r.can)
+step_tie g h (inr (inl r)) = tie r.live g r.block r.other (front_of r.live g r.block r.other r.can)
 step_tie g h (inr (inr x)) = all_tie
 
 step_tied : (g h : Graph) (s : OrSame GraphStep g h) → GraphTied (step_tie g h s) g h
 step_tied g h (inl e) = same_tied g h e
-step_tied g h (inr (inl r)) = graph_tied r.live g r.block (front_of r.live g r.block r.can) r.covers h r.is
+step_tied g h (inr (inl r)) = graph_tied r.live g r.block r.other (front_of r.live g r.block r.other r.can) r.covers h r.is
 step_tied g h (inr (inr x)) = exchanged_tied g h x.block x.place x.can x.is
 
 step_runs : (flow : Flow) (graphs : List Graph) → Each (OrSame GraphStep) flow.functions graphs → (input : List ℤ) → NeverFails (graph_run flow input) → (n : ℕ) → graph_run (with_graphs flow graphs) input n ≡ graph_run flow input n

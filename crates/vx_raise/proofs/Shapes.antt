@@ -1,5 +1,5 @@
 -- The shape of a graph stays where operations are raised and exchanged.
-use Rattle.std.proofs.Common.{◌≡◌, inl, inr, ℕ, zero, suc, ◌+◌, ◌<◌, ◌≤◌, ◌==◌, ◌&&◌, ◌||◌, Bool, true, false, cond, nat_lt, List, [], ◌∷◌, ◌++◌, length, length-append, slice_get, Option, Some, None, refl, sym, ap, ◌∙◌, subst, arith}
+use Rattle.std.proofs.Common.{◌≡◌, inl, inr, ℕ, zero, suc, ◌+◌, ◌<◌, ◌≤◌, ◌&&◌, ◌||◌, Bool, true, false, cond, nat_lt, List, [], ◌∷◌, ◌++◌, length, length-append, slice_get, Option, Some, None, refl, sym, ap, ◌∙◌, subst, arith}
 use Rattle.std.proofs.lemmas.Bool.{and_parts, ltb-true}
 use Rattle.std.specs.Option.{option_map}
 use Rattle.std.specs.Prelude.{not}
@@ -17,7 +17,7 @@ use Rattle.vx_shape.specs.Flows.{Each}
 use Rattle.vx_shape.specs.Shape.{Shaped}
 use Rattle.vx_shape.proofs.Pairs.{At, each_at, each_length}
 use Rattle.vx_shape.proofs.FlowsStay.{KeepsShape, shape_kept}
-use Rattle.vx_raise.specs.Raising.{leads_to, behind_first, raised_block, raised_blocks, lets_in, takes_in, GraphRaised}
+use Rattle.vx_raise.specs.Raising.{is_either, leads_to, behind_first, raised_block, raised_blocks, lets_in, takes_in, GraphRaised}
 use Rattle.vx_raise.specs.Exchanging.{exchanged_ops, exchanged_blocks, GraphExchanged}
 use Rattle.vx_raise.proofs.Raises.{Front, front_of, block_here}
 use Rattle.vx_raise.proofs.Exchanges.{BlockExchanged, each_exchanged}
@@ -119,9 +119,9 @@ exchanged_kept g h x p function o =
 
 -- ---- raised
 
-raised_length : (b : ℕ) (op : Op) (i : ℕ) (blocks : List Block) → length (raised_blocks b op i blocks) ≡ length blocks
-raised_length b op i [] = refl
-raised_length b op i (block ∷ blocks) = ap suc (raised_length b op (suc i) blocks)
+raised_length : (from : ℕ → Bool) (op : Op) (i : ℕ) (blocks : List Block) → length (raised_blocks from op i blocks) ≡ length blocks
+raised_length from op i [] = refl
+raised_length from op i (block ∷ blocks) = ap suc (raised_length from op (suc i) blocks)
 
 behind_shorter : (q : Bool) (ops : List Op) → length (cond q (behind_first ops) ops) ≤ length ops
 behind_shorter true [] = omega arith
@@ -132,36 +132,37 @@ nothing_behind : (q : Bool) → cond q (behind_first []) [] ≡ []
 nothing_behind true = refl
 nothing_behind false = refl
 
-raised_like : (live : ℕ → ℕ → Bool) (b v : ℕ) (op : Op) (i : ℕ) (block : Block) → takes_in live b v block ≡ true → BlockLike block (raised_block b op i block)
-raised_like live b v op i block takes = record {
+raised_like : (live : ℕ → ℕ → Bool) (from : ℕ → Bool) (v : ℕ) (op : Op) (i : ℕ) (block : Block) → takes_in live from v block ≡ true → BlockLike block (raised_block from op i block)
+raised_like live from v op i block takes = record {
   exit = refl;
   empty = λ k e h.
-      ap (λ ops. cond (i == b) (behind_first ops) ops ++ cond (leads_to b block.exit) (dismissed op ∷ []) []) h ∙
-      (ap (λ x. cond (i == b) (behind_first []) [] ++ cond (leads_to b x) (dismissed op ∷ []) []) e ∙
-      ap (λ ops. ops ++ []) (nothing_behind (i == b)));
-  short = λ h. by (leads_to b block.exit) takes h;
+      ap (λ ops. cond (from i) (behind_first ops) ops ++ cond (leads_to from block.exit) (dismissed op ∷ []) []) h ∙
+      (ap (λ x. cond (from i) (behind_first []) [] ++ cond (leads_to from x) (dismissed op ∷ []) []) e ∙
+      ap (λ ops. ops ++ []) (nothing_behind (from i)));
+  short = λ h. by (leads_to from block.exit) takes h;
 }
   where
-    by : (q : Bool) → (not q || (lets_in live b v block.exit && nat_lt (length block.ops) 512)) ≡ true → length block.ops ≤ 512 → length (cond (i == b) (behind_first block.ops) block.ops ++ cond q (dismissed op ∷ []) []) ≤ 512
+    by : (q : Bool) → (not q || (lets_in live from v block.exit && nat_lt (length block.ops) 512)) ≡ true → length block.ops ≤ 512 → length (cond (from i) (behind_first block.ops) block.ops ++ cond q (dismissed op ∷ []) []) ≤ 512
     by true t h =
-        let room : length block.ops < 512 = ltb-true (length block.ops) 512 (and_parts (lets_in live b v block.exit) (nat_lt (length block.ops) 512) t).1 in
-        let most : length (cond (i == b) (behind_first block.ops) block.ops) ≤ length block.ops = behind_shorter (i == b) block.ops in
-        let e : length (cond (i == b) (behind_first block.ops) block.ops ++ dismissed op ∷ []) ≡ length (cond (i == b) (behind_first block.ops) block.ops) + length (dismissed op ∷ []) = length-append (cond (i == b) (behind_first block.ops) block.ops) (dismissed op ∷ []) in
+        let room : length block.ops < 512 = ltb-true (length block.ops) 512 (and_parts (lets_in live from v block.exit) (nat_lt (length block.ops) 512) t).1 in
+        let most : length (cond (from i) (behind_first block.ops) block.ops) ≤ length block.ops = behind_shorter (from i) block.ops in
+        let e : length (cond (from i) (behind_first block.ops) block.ops ++ dismissed op ∷ []) ≡ length (cond (from i) (behind_first block.ops) block.ops) + length (dismissed op ∷ []) = length-append (cond (from i) (behind_first block.ops) block.ops) (dismissed op ∷ []) in
         omega arith
     by false t h =
-        let most : length (cond (i == b) (behind_first block.ops) block.ops) ≤ length block.ops = behind_shorter (i == b) block.ops in
-        let e : length (cond (i == b) (behind_first block.ops) block.ops ++ []) ≡ length (cond (i == b) (behind_first block.ops) block.ops) + length {A = Op} [] = length-append (cond (i == b) (behind_first block.ops) block.ops) [] in
+        let most : length (cond (from i) (behind_first block.ops) block.ops) ≤ length block.ops = behind_shorter (from i) block.ops in
+        let e : length (cond (from i) (behind_first block.ops) block.ops ++ []) ≡ length (cond (from i) (behind_first block.ops) block.ops) + length {A = Op} [] = length-append (cond (from i) (behind_first block.ops) block.ops) [] in
         omega arith
 
-option_like : (live : ℕ → ℕ → Bool) (b v : ℕ) (op : Op) (i : ℕ) (o : Option Block) → ((block : Block) → o ≡ Some block → takes_in live b v block ≡ true) → At BlockLike o (option_map (raised_block b op i) o)
-option_like live b v op i None k = tt
-option_like live b v op i (Some block) k = raised_like live b v op i block (k block refl)
+option_like : (live : ℕ → ℕ → Bool) (from : ℕ → Bool) (v : ℕ) (op : Op) (i : ℕ) (o : Option Block) → ((block : Block) → o ≡ Some block → takes_in live from v block ≡ true) → At BlockLike o (option_map (raised_block from op i) o)
+option_like live from v op i None k = tt
+option_like live from v op i (Some block) k = raised_like live from v op i block (k block refl)
 
 pub raised_kept : (g h : Graph) → GraphRaised g h → KeepsShape g h
 raised_kept g h r p function o =
-    let front : Front r.live g r.block = front_of r.live g r.block r.can in
-    let blocks : List Block = raised_blocks r.block front.op 0 g.blocks in
+    let front : Front r.live g r.block r.other = front_of r.live g r.block r.other r.can in
+    let from : ℕ → Bool = is_either r.block r.other in
+    let blocks : List Block = raised_blocks from front.op 0 g.blocks in
     subst (GraphOf p function) (sym (r.is ∙ front.is))
-    (like_kept p function g blocks o (raised_length r.block front.op 0 g.blocks)
+    (like_kept p function g blocks o (raised_length from front.op 0 g.blocks)
     (λ i.
-    subst (At BlockLike (slice_get g.blocks i)) (sym (block_here r.block front.op g.blocks i)) (option_like r.live r.block front.value front.op i (slice_get g.blocks i) (λ block q. all_at (takes_in r.live r.block front.value) g.blocks i block front.takes q))))
+    subst (At BlockLike (slice_get g.blocks i)) (sym (block_here from front.op g.blocks i)) (option_like r.live from front.value front.op i (slice_get g.blocks i) (λ block q. all_at (takes_in r.live from front.value) g.blocks i block front.takes q))))

@@ -7,11 +7,26 @@ use vx_base::listed::Listed;
 use vx_flow::graph::{BlockId, Value};
 use vx_flow::live_rows::Live;
 
-/// An operation that is to be raised: its block and its place there.
+/// An operation that is to be raised: its block and its place there, and those of the same operation in the other block where it is
+/// raised from both ways of a split at once. Else the other block is the first.
 #[derive(Clone, Copy)]
 pub struct Move {
     pub block: BlockId,
     pub place: u32,
+    pub other: BlockId,
+    pub other_place: u32,
+}
+
+impl Move {
+    /// An operation of one block.
+    pub(crate) fn single(block: BlockId, place: u32) -> Move {
+        Move {
+            block,
+            place,
+            other: block,
+            other_place: place,
+        }
+    }
 }
 
 /// A value that may be live at the start of a block since an operation was raised from there.

@@ -1,25 +1,43 @@
-// Whether an operation of a block may be raised: past those before it in its block, to the ends of the blocks that lead there.
+// Whether an operation of a block, or of two, may be raised: past those before it in its block, to the ends of the blocks that lead
+// there.
 
 ghost use Rattle.std.specs.Prelude.{◌≡◌, ◌==◌, ◌&&◌, not};
 ghost use Rattle.std.specs.List.{list_all};
 ghost use Rattle.vx_flow.specs.Effects.{reads, writes};
 ghost use Rattle.vx_flow.specs.Operands.{value_list, values_read};
-ghost use Rattle.vx_raise.specs.Raising.{leads_to, lets_in, may_raise, result_of, takes_in};
+ghost use Rattle.vx_raise.specs.Raising.{is_either, leads_to, lets_in, may_raise, result_of, same_op, takes_in};
 ghost use Rattle.vx_raise.specs.Exchanging.{are_apart, is_load, is_store, may_pass};
 ghost use Rattle.vx_raise.specs.Lifting.{can_lift, known_at, op_at, passes};
 
 use crate::known::Known;
+use vx_claims::known::{same_code, same_operand};
 use vx_flow::graph::{Block, BlockId, Exit, Graph, Op, Value};
 use vx_flow::operands::{Reads, read_by, written_by};
 
-/// Whether an exit leads to the block.
-pub fn leads_to(block: BlockId, exit: &Exit) -> bool
-    ensures { result ≡ leads_to block exit.now }
+/// The blocks from which an operation is raised: the same twice where it is raised from one alone.
+#[derive(Clone, Copy)]
+pub struct Origins {
+    pub block: BlockId,
+    pub other: BlockId,
+}
+
+impl Origins {
+    /// Whether a block is one of them.
+    pub fn has(self, block: BlockId) -> bool
+        ensures { result ≡ is_either self.block self.other block }
+    {
+        block == self.block || block == self.other
+    }
+}
+
+/// Whether an exit leads to one of the blocks.
+pub fn leads_to(from: Origins, exit: &Exit) -> bool
+    ensures { result ≡ leads_to (is_either from.block from.other) exit.now }
 {
     match exit {
-        Exit::Goto(to) => *to == block,
-        Exit::Split { yes, no, .. } => *yes == block || *no == block,
-        Exit::Call { next, .. } => *next == block,
+        Exit::Goto(to) => from.has(*to),
+        Exit::Split { yes, no, .. } => from.has(*yes) || from.has(*no),
+        Exit::Call { next, .. } => from.has(*next),
         Exit::Return(_) | Exit::Ends(_) => false,
     }
 }
@@ -37,34 +55,103 @@ pub fn result_of(op: &Op) -> Option<Value>
     }
 }
 
+/// Whether two operations that only write a value are the same; of two loads one may be dismissible.
+pub fn same_op(first: &Op, second: &Op) -> bool
+    ensures { result ≡ same_op first.now second.now }
+{
+    match (*first, *second) {
+        (
+            Op::Compute {
+                code,
+                to,
+                left,
+                right,
+            },
+            Op::Compute {
+                code: other_code,
+                to: other_to,
+                left: other_left,
+                right: other_right,
+            },
+        ) => {
+            to == other_to
+                && same_code(code, other_code)
+                && same_operand(left, other_left)
+                && same_operand(right, other_right)
+        }
+        (
+            Op::Select {
+                to,
+                test,
+                left,
+                right,
+            },
+            Op::Select {
+                to: other_to,
+                test: other_test,
+                left: other_left,
+                right: other_right,
+            },
+        ) => {
+            to == other_to
+                && test == other_test
+                && same_operand(left, other_left)
+                && same_operand(right, other_right)
+        }
+        (
+            Op::Place { to, array, index },
+            Op::Place {
+                to: other_to,
+                array: other_array,
+                index: other_index,
+            },
+        ) => to == other_to && array == other_array && same_operand(index, other_index),
+        (
+            Op::Load {
+                to,
+                array,
+                place,
+                ..
+            },
+            Op::Load {
+                to: other_to,
+                array: other_array,
+                place: other_place,
+                ..
+            },
+        ) => to == other_to && array == other_array && same_operand(place, other_place),
+        _ => false,
+    }
+}
+
 /// Whether an exit does not read the value, which is not live at another block that it leads to.
-fn lets_in(known: &Known, block: BlockId, value: Value, exit: &Exit) -> bool
-    ensures { result ≡ lets_in (known_at known.now.live known.now.noted) block value exit.now }
+fn lets_in(known: &Known, from: Origins, value: Value, exit: &Exit) -> bool
+    ensures { result ≡ lets_in (known_at known.now.live known.now.noted) (is_either from.block from.other) value exit.now }
 {
     match exit {
         Exit::Goto(_) => true,
         Exit::Split { test, yes, no } => {
             *test != value
-                && (*yes == block || !known.at(*yes, value))
-                && (*no == block || !known.at(*no, value))
+                && (from.has(*yes) || !known.at(*yes, value))
+                && (from.has(*no) || !known.at(*no, value))
         }
         _ => false,
     }
 }
 
 /// Whether an operation that writes the value may end a block, if that leads to where it is raised from.
-fn takes_in(known: &Known, block: BlockId, value: Value, from: &Block) -> bool
-    ensures { result ≡ takes_in (known_at known.now.live known.now.noted) block value from.now }
+fn takes_in(known: &Known, from: Origins, value: Value, block: &Block) -> bool
+    ensures { result ≡ takes_in (known_at known.now.live known.now.noted) (is_either from.block from.other) value block.now }
 {
-    !leads_to(block, &from.exit)
-        || (lets_in(known, block, value, &from.exit) && from.ops.len() < 512)
+    !leads_to(from, &block.exit)
+        || (lets_in(known, from, value, &block.exit) && block.ops.len() < 512)
 }
 
-pub fn all_take_in(known: &Known, block: BlockId, value: Value, blocks: &[Block]) -> bool
-    ensures { result ≡ list_all (takes_in (known_at known.now.live known.now.noted) block value) blocks.now }
+pub fn all_take_in(known: &Known, from: Origins, value: Value, blocks: &[Block]) -> bool
+    ensures { result ≡ list_all (takes_in (known_at known.now.live known.now.noted) (is_either from.block from.other) value) blocks.now }
 {
-    for from in blocks {
-        if !takes_in(known, block, value, from) {
+    for block in blocks {
+        if !takes_in(known, from, value, block) {
             return false;
         }
     }

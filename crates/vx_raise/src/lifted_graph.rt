@@ -1,14 +1,14 @@
 // A graph with operations raised, each where it may be.
 
-ghost use Rattle.std.specs.Prelude.{◌≡◌, ◌++◌, ◌∷◌, [], ◌<◌, ◌^◌, length, true, Some, IfOk, IfSome, if◌then◌else◌, slice_get};
+ghost use Rattle.std.specs.Prelude.{◌≡◌, ◌&&◌, ◌++◌, ◌∷◌, [], ◌<◌, ◌^◌, length, true, Some, IfOk, IfSome, if◌then◌else◌, slice_get};
 ghost use Rattle.std.specs.List.{list_all};
 ghost use Rattle.vx_flow.specs.Effects.{dismissed};
-ghost use Rattle.vx_raise.specs.Raising.{leads_to, may_raise, result_of, result_of_first};
+ghost use Rattle.vx_raise.specs.Raising.{is_either, leads_to, may_raise, result_of, result_of_first, same_ops};
 ghost use Rattle.vx_raise.specs.Moving.{GraphMoved};
-ghost use Rattle.vx_raise.specs.Lifting.{can_lift, can_lift_op, known_at, lifted, lifted_block, lifted_blocks, op_at, passes_in, RaisesOne, without};
+ghost use Rattle.vx_raise.specs.Lifting.{blocks_of, can_lift, can_lift_op, known_at, lifted, lifted_block, lifted_blocks, noted_of, op_at, ops_left, passes_at, passes_in, RaisesOne, without};
 
 use crate::known::{Known, Move, Noted};
-use crate::lift_test::{all_take_in, leads_to, passes, result_of};
+use crate::lift_test::{Origins, all_take_in, leads_to, passes, result_of, same_op};
 use std::alloc::Global;
 use vx_base::listed::{Listed, copied};
 use vx_base::outcome::NoMemory;
@@ -47,27 +47,53 @@ fn passes_in(op: &Op, graph: &Graph, block: BlockId, place: usize) -> bool
     }
 }
 
-fn may_raise(known: &Known, graph: &Graph, block: BlockId, op: &Op) -> bool
-    ensures { result ≡ may_raise (known_at known.now.live known.now.noted) graph.now block (result_of op.now) }
+fn may_raise(known: &Known, graph: &Graph, one: Move, op: &Op) -> bool
+    ensures { result ≡ may_raise (known_at known.now.live known.now.noted) graph.now (blocks_of one) (result_of op.now) }
 {
     match result_of(op) {
-        Some(value) => all_take_in(known, block, value, graph.blocks.as_slice()),
+        Some(value) => all_take_in(known, origins_of(one), value, graph.blocks.as_slice()),
         None => false,
     }
 }
 
-fn can_lift_op(known: &Known, graph: &Graph, block: BlockId, place: usize, op: &Op) -> bool
-    ensures { result ≡ can_lift_op (known_at known.now.live known.now.noted) graph.now block place (Some op.now) }
+/// The blocks from which a move raises.
+fn origins_of(one: Move) -> Origins
+    ensures { result ≡ record { block = one.block; other = one.other } }
 {
-    passes_in(op, graph, block, place) && may_raise(known, graph, block, op)
+    Origins {
+        block: one.block,
+        other: one.other,
+    }
 }
 
-/// Whether the operation at a place of a block may be raised.
-pub fn can_lift(known: &Known, graph: &Graph, block: BlockId, place: usize) -> bool
-    ensures { result ≡ can_lift (known_at known.now.live known.now.noted) graph.now block place }
+fn can_lift_op(known: &Known, graph: &Graph, one: Move, op: &Op) -> bool
+    ensures { result ≡ can_lift_op (known_at known.now.live known.now.noted) graph.now one (Some op.now) }
 {
-    match op_at(graph, block, place) {
-        Some(op) => 0 != block && can_lift_op(known, graph, block, place, &op),
+    passes_in(op, graph, one.block, one.place as usize) && may_raise(known, graph, one, op)
+}
+
+/// Whether the operation is in the other block of a move too, and may pass what stands before it there.
+fn is_there(graph: &Graph, one: Move, op: &Op) -> bool
+    ensures { result ≡ (same_ops (Some op.now) (op_at graph.now one.other one.other_place) && passes_at graph.now one.other one.other_place (op_at graph.now one.other one.other_place)) }
+{
+    match op_at(graph, one.other, one.other_place as usize) {
+        Some(there) => {
+            same_op(op, &there) && passes_in(&there, graph, one.other, one.other_place as usize)
+        }
+        None => false,
+    }
+}
+
+/// Whether the operation of a move may be raised.
+pub fn can_lift(known: &Known, graph: &Graph, one: Move) -> bool
+    ensures { result ≡ can_lift (known_at known.now.live known.now.noted) graph.now one }
+{
+    match op_at(graph, one.block, one.place as usize) {
+        Some(op) => {
+            !(0 == one.block || 0 == one.other)
+                && (one.block == one.other || is_there(graph, one, &op))
+                && can_lift_op(known, graph, one, &op)
+        }
         None => false,
     }
 }
@@ -93,21 +119,23 @@ fn push_unless(list: &mut Listed<Op>, is_out: bool, op: Op) -> Result<(), NoMemo
     Ok(())
 }
 
-fn kept_ops(alloc: Global, is_it: bool, ops: &[Op], place: usize) -> Result<Listed<Op>, NoMemory>
-    ensures { IfOk result (λ list. list ≡ (if is_it then without place ops.now else ops.now)) }
+fn ops_left(alloc: Global, one: Move, number: BlockId, ops: &[Op]) -> Result<Listed<Op>, NoMemory>
+    ensures { IfOk result (λ list. list ≡ ops_left one number ops.now) }
 {
-    if is_it {
-        ops_without(alloc, ops, place)
+    if number == one.block {
+        ops_without(alloc, ops, one.place as usize)
+    } else if number == one.other {
+        ops_without(alloc, ops, one.other_place as usize)
     } else {
         let list = copied(alloc, ops)?;
         Ok(list)
     }
 }
 
-fn push_end(list: &mut Listed<Op>, block: BlockId, op: &Op, exit: &Exit) -> Result<(), NoMemory>
-    ensures { IfOk result (λ _. list.new ≡ list.old ++ (if leads_to block exit.now then dismissed op.now ∷ [] else [])) }
+fn push_end(list: &mut Listed<Op>, from: Origins, op: &Op, exit: &Exit) -> Result<(), NoMemory>
+    ensures { IfOk result (λ _. list.new ≡ list.old ++ (if leads_to (is_either from.block from.other) exit.now then dismissed op.now ∷ [] else [])) }
 {
-    if leads_to(block, exit) {
+    if leads_to(from, exit) {
         list.push(dismissed(*op))?;
     }
     Ok(())
@@ -116,49 +144,41 @@ fn push_end(list: &mut Listed<Op>, block: BlockId, op: &Op, exit: &Exit) -> Resu
 /// The block with a number, where an operation of another, or of it, is raised.
 fn lifted_block(
     alloc: Global,
-    block: BlockId,
-    place: usize,
+    one: Move,
     op: &Op,
     number: BlockId,
     old: &Block,
 ) -> Result<Block, NoMemory>
-    ensures { IfOk result (λ new. new ≡ lifted_block block place op.now number old.now) }
+    ensures { IfOk result (λ new. new ≡ lifted_block one op.now number old.now) }
 {
-    let mut ops = kept_ops(alloc, number == block, old.ops.as_slice(), place)?;
-    push_end(&mut ops, block, op, &old.exit)?;
+    let mut ops = ops_left(alloc, one, number, old.ops.as_slice())?;
+    push_end(&mut ops, origins_of(one), op, &old.exit)?;
     let exit = copied_exit(alloc, &old.exit)?;
     Ok(Block { ops, exit })
 }
 
 fn lifted_blocks(
     alloc: Global,
-    block: BlockId,
-    place: usize,
+    one: Move,
     op: &Op,
     blocks: &[Block],
 ) -> Result<Listed<Block>, NoMemory>
     requires { length blocks.now < 2 ^ 32 }
-    ensures { IfOk result (λ new. new ≡ lifted_blocks block place op.now 0 blocks.now) }
+    ensures { IfOk result (λ new. new ≡ lifted_blocks one op.now 0 blocks.now) }
 {
     let mut new = Listed::new(alloc);
     for (index, old) in blocks.iter().enumerate() {
-        let lifted = lifted_block(alloc, block, place, op, index as u32, old)?;
+        let lifted = lifted_block(alloc, one, op, index as u32, old)?;
         new.push(lifted)?;
     }
     Ok(new)
 }
 
-fn lifted(
-    alloc: Global,
-    graph: &Graph,
-    block: BlockId,
-    place: usize,
-    op: &Op,
-) -> Result<Graph, NoMemory>
-    ensures { IfOk result (λ new. new ≡ record graph.now { blocks = lifted_blocks block place op.now 0 graph.now.blocks }) }
+fn lifted(alloc: Global, graph: &Graph, one: Move, op: &Op) -> Result<Graph, NoMemory>
+    ensures { IfOk result (λ new. new ≡ record graph.now { blocks = lifted_blocks one op.now 0 graph.now.blocks }) }
 {
     let _count = graph.blocks.len();
-    let blocks = lifted_blocks(alloc, block, place, op, graph.blocks.as_slice())?;
+    let blocks = lifted_blocks(alloc, one, op, graph.blocks.as_slice())?;
     with_blocks(alloc, graph, blocks)
 }
 
@@ -178,35 +198,42 @@ pub(crate) fn raised_once(
     graph: &Graph,
     one: Move,
 ) -> Result<Option<Raised>, NoMemory>
-    ensures { IfOk result (λ found. IfSome found (λ raised. RaisesOne known.now.live known.now.noted graph.now one.block one.place raised.value raised.graph)) }
+    ensures { IfOk result (λ found. IfSome found (λ raised. RaisesOne known.now.live known.now.noted graph.now one raised.value raised.graph)) }
 {
-    let block = one.block;
-    let place = one.place as usize;
-    if !can_lift(known, graph, block, place) {
+    if !can_lift(known, graph, one) {
         return Ok(None);
     }
-    match op_at(graph, block, place) {
-        Some(op) => raised_by(alloc, graph, block, place, &op),
+    match op_at(graph, one.block, one.place as usize) {
+        Some(op) => raised_by(alloc, graph, one, &op),
         None => Ok(None),
     }
 }
 
-fn raised_by(
-    alloc: Global,
-    graph: &Graph,
-    block: BlockId,
-    place: usize,
-    op: &Op,
-) -> Result<Option<Raised>, NoMemory>
-    ensures { IfOk result (λ found. IfSome found (λ raised. (result_of op.now ≡ Some raised.value) × (raised.graph ≡ record graph.now { blocks = lifted_blocks block place op.now 0 graph.now.blocks }))) }
+fn raised_by(alloc: Global, graph: &Graph, one: Move, op: &Op) -> Result<Option<Raised>, NoMemory>
+    ensures { IfOk result (λ found. IfSome found (λ raised. (result_of op.now ≡ Some raised.value) × (raised.graph ≡ record graph.now { blocks = lifted_blocks one op.now 0 graph.now.blocks }))) }
 {
     match result_of(op) {
         Some(value) => {
-            let graph = lifted(alloc, graph, block, place, op)?;
+            let graph = lifted(alloc, graph, one, op)?;
             Ok(Some(Raised { graph, value }))
         }
         None => Ok(None),
     }
+}
+
+/// Notes the value at the blocks from which an operation that writes it was raised.
+fn note(noted: &mut Listed<Noted>, one: Move, value: Value) -> Result<(), NoMemory>
+    ensures { IfOk result (λ _. noted.new ≡ noted.old ++ noted_of one value) }
+{
+    noted.push(Noted {
+        block: one.block,
+        value,
+    })?;
+    noted.push(Noted {
+        block: one.other,
+        value,
+    })?;
+    Ok(())
 }
 
 /// The graph with operations raised, one after the other, each where it may be; the others stay. What is live is found once.
@@ -224,10 +251,7 @@ pub fn raise_all(alloc: Global, graph: &Graph, moves: &[Move]) -> Result<Graph, 
             Some(found) => {
                 let Raised { graph, value } = found;
                 current = graph;
-                known.noted.push(Noted {
-                    block: one.block,
-                    value,
-                })?;
+                note(&mut known.noted, *one, value)?;
             }
             None => {}
         }

@@ -70,7 +70,7 @@ impl Names {
 
     fn keep_raised(&mut self, graph: &Graph, trials: &[Trial], block: BlockId) {
         for trial in trials {
-            if trial.block == block {
+            if trial.is_from(block) {
                 self.keep(graph, trial.value);
             }
         }

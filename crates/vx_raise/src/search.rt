@@ -4,11 +4,12 @@
 
 use crate::costs::cost_of;
 use crate::known::Move;
+use crate::lift_test::result_of;
 use crate::names::{Names, Passing, names_of};
 use crate::plan::{Plan, number_at, plan_of};
 use crate::raised_flow::Wanted;
 use crate::sketch::{Ground, Sketch, as_number};
-use crate::steps::{Effect, Step, steps_of};
+use crate::steps::{Effect, Step, block_at, steps_of};
 use crate::turns::{Turn, Walk, turn_of, walk_of};
 use crate::units::Units;
 use std::alloc::Global;
@@ -43,6 +44,14 @@ enum Kind {
     Critical,
     /// All that may be.
     All,
+}
+
+/// How operations are put round: which, and whether each time those that the next turn reads are first raised past splits whose ways
+/// both have them.
+#[derive(Clone, Copy)]
+struct Way {
+    kind: Kind,
+    climbs: bool,
 }
 
 /// What the registers allow: the values that are kept before, and those that pass in the turn.
@@ -320,9 +329,46 @@ fn best_of(
     turn: &Turn,
     before: u64,
 ) -> Result<Attempt, NoMemory> {
-    let one = attempt_by(alloc, ground, sketch, limits, turn, Kind::Critical, before)?;
-    let other = attempt_by(alloc, ground, sketch, limits, turn, Kind::All, before)?;
+    let mut best = best_by(alloc, ground, sketch, limits, turn, false, before)?;
+    if has_joins(sketch, turn.path.as_slice()) {
+        let other = best_by(alloc, ground, sketch, limits, turn, true, before)?;
+        if other.cost < best.cost {
+            best = other;
+        }
+    }
+    Ok(best)
+}
+
+fn best_by(
+    alloc: Global,
+    ground: &Ground,
+    sketch: &mut Sketch,
+    limits: &Limits,
+    turn: &Turn,
+    climbs: bool,
+    before: u64,
+) -> Result<Attempt, NoMemory> {
+    let critical = Way {
+        kind: Kind::Critical,
+        climbs,
+    };
+    let all = Way {
+        kind: Kind::All,
+        climbs,
+    };
+    let one = attempt_by(alloc, ground, sketch, limits, turn, critical, before)?;
+    let other = attempt_by(alloc, ground, sketch, limits, turn, all, before)?;
     Ok(if other.cost < one.cost { other } else { one })
+}
+
+/// Whether ways meet at a block of the path behind the header.
+fn has_joins(sketch: &Sketch, path: &[BlockId]) -> bool {
+    for (row, block) in path.iter().enumerate() {
+        if row > 0 && sketch.leading_to(*block).len() > 1 {
+            return true;
+        }
+    }
+    false
 }
 
 fn raise_each(
@@ -346,7 +392,7 @@ fn attempt_by(
     sketch: &mut Sketch,
     limits: &Limits,
     turn: &Turn,
-    kind: Kind,
+    way: Way,
     before: u64,
 ) -> Result<Attempt, NoMemory> {
     let start = sketch.count();
@@ -354,8 +400,9 @@ fn attempt_by(
     let mut count = start;
     let mut idle = 0usize;
     for _ in 0..MOST_ROUNDS {
-        let moved = put_round(alloc, ground, sketch, limits, turn, kind, start)?;
-        if !moved || idle >= MOST_IDLE || sketch.count() >= MOST_MOVES {
+        let climbed = way.climbs && climb_all(ground, sketch, turn)?;
+        let moved = put_round(alloc, ground, sketch, limits, turn, way.kind, start)?;
+        if !(moved || climbed) || idle >= MOST_IDLE || sketch.count() >= MOST_MOVES {
             break;
         }
         let cost = cost_of(alloc, ground, sketch, turn)?;
@@ -376,10 +423,7 @@ fn attempt_by(
 fn moves_since(alloc: Global, sketch: &Sketch, start: usize) -> Result<Vec<Move>, NoMemory> {
     let mut moves = Vec::new(alloc);
     for trial in sketch.raised_since(start) {
-        moves.push(Move {
-            block: trial.block,
-            place: trial.place,
-        })?;
+        moves.push(trial.one)?;
     }
     Ok(moves)
 }
@@ -465,6 +509,84 @@ fn carry(
         sketch.back_to(count)?;
         Ok(false)
     }
+}
+
+/// Raises what the next turn reads past splits both of whose ways have it. Answers whether there was something.
+fn climb_all(ground: &Ground, sketch: &mut Sketch, turn: &Turn) -> Result<bool, NoMemory> {
+    let start = sketch.count();
+    for row in 1..turn.path.len() {
+        climb_from(ground, sketch, turn.path.as_slice(), row)?;
+    }
+    Ok(sketch.count() > start)
+}
+
+fn climb_from(
+    ground: &Ground,
+    sketch: &mut Sketch,
+    path: &[BlockId],
+    row: usize,
+) -> Result<(), NoMemory> {
+    let count = match block_at(path, row) {
+        Some(block) => sketch.ops_at(block).len().min(MOST_BESIDE),
+        None => 0,
+    };
+    let mut place = 0usize;
+    for _ in 0..count {
+        let climbs = is_awaited(ground, sketch, path, row, place);
+        if !(climbs && climb(ground, sketch, path, row, place)?) {
+            place = place.saturating_add(1);
+        }
+    }
+    Ok(())
+}
+
+/// Whether an operation of a block of the path writes a value that is live at the header.
+fn is_awaited(
+    ground: &Ground,
+    sketch: &Sketch,
+    path: &[BlockId],
+    row: usize,
+    place: usize,
+) -> bool {
+    match (block_at(path, row), block_at(path, 0)) {
+        (Some(block), Some(header)) => match sketch.ops_at(block).get(place) {
+            Some(op) => match result_of(op) {
+                Some(value) => sketch.is_live(ground, header, value),
+                None => false,
+            },
+            None => false,
+        },
+        _ => false,
+    }
+}
+
+/// Raises an operation up the path, to before the highest split whose ways both have it then. Answers whether there is one.
+fn climb(
+    ground: &Ground,
+    sketch: &mut Sketch,
+    path: &[BlockId],
+    row: usize,
+    place: usize,
+) -> Result<bool, NoMemory> {
+    let start = sketch.count();
+    let mut kept = start;
+    let mut at = place;
+    for above in 0..row {
+        let here = row.saturating_sub(above);
+        let is_raised = match block_at(path, here) {
+            Some(block) => sketch.raise(ground, block, at)?,
+            None => false,
+        };
+        if !is_raised {
+            break;
+        }
+        if sketch.is_last_double() {
+            kept = sketch.count();
+        }
+        at = end_of(sketch, path, here.saturating_sub(1));
+    }
+    sketch.back_to(kept)?;
+    Ok(kept > start)
 }
 
 /// Raises an operation from block to block up the path, and from its first block too. Answers whether that went through.

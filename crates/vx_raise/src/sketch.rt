@@ -2,7 +2,7 @@
 // What is tried here owes nothing: in the end each move is tested again.
 
 use crate::known::Move;
-use crate::lift_test::{passes, result_of};
+use crate::lift_test::{Origins, passes, result_of, same_op};
 use crate::units::Units;
 use std::alloc::Global;
 use vx_base::listed::Listed;
@@ -23,13 +23,34 @@ pub(crate) struct Ground<'a> {
     pub(crate) units: &'a Units,
 }
 
-/// An operation that was raised, and where it stood.
+/// An operation that was raised, and where it stood: in one block, or in both ways of a split.
 #[derive(Clone, Copy)]
 pub(crate) struct Trial {
-    pub block: BlockId,
-    pub place: u32,
+    pub one: Move,
     pub op: Op,
+    /// As it stood in the other block.
+    pub other_op: Op,
     pub value: Value,
+}
+
+impl Trial {
+    /// Whether it was raised from both ways of a split.
+    pub(crate) fn is_double(self) -> bool {
+        self.one.block != self.one.other
+    }
+
+    /// Whether it was raised from the block.
+    pub(crate) fn is_from(self, block: BlockId) -> bool {
+        self.one.block == block || self.one.other == block
+    }
+}
+
+/// Where the same operation stands in the other way of a split.
+#[derive(Clone, Copy)]
+struct Mate {
+    block: BlockId,
+    place: usize,
+    op: Op,
 }
 
 /// The operations of each block, the blocks that lead to each, and what was raised so far.
@@ -76,11 +97,19 @@ impl Sketch {
     /// Whether a value may be live at the start of a block by now.
     pub(crate) fn is_live(&self, ground: &Ground, block: BlockId, value: Value) -> bool {
         for trial in self.raised.as_slice() {
-            if trial.block == block && trial.value == value {
+            if trial.is_from(block) && trial.value == value {
                 return true;
             }
         }
         ground.live.at(block, value)
+    }
+
+    /// Whether the last operation that was raised was so from both ways of a split.
+    pub(crate) fn is_last_double(&self) -> bool {
+        match self.raised.as_slice().last() {
+            Some(trial) => trial.is_double(),
+            None => false,
+        }
     }
 
     /// Raises an operation to the ends of the blocks that lead to its block, where it may be. Answers whether it was.
@@ -99,69 +128,138 @@ impl Sketch {
         }
     }
 
-    /// The operation at a place of a block, where it may be raised.
+    /// The operation at a place of a block, where it may be raised: from both ways of a split at once if it stands in both.
     fn trial_at(&self, ground: &Ground, block: BlockId, place: usize) -> Option<Trial> {
         let ops = self.ops_at(block);
         match ops.get(place) {
-            Some(op) => match result_of(op) {
-                Some(value) => {
-                    if block != 0
-                        && passes(op, place, ops)
-                        && self.all_take_in(ground, block, value)
-                    {
-                        Some(Trial {
-                            block,
-                            place: as_number(place),
-                            op: *op,
-                            value,
-                        })
-                    } else {
-                        None
-                    }
+            Some(op) => {
+                if block != 0 && passes(op, place, ops) {
+                    self.trial_of(ground, block, place, op)
+                } else {
+                    None
                 }
-                None => None,
-            },
+            }
             None => None,
         }
     }
 
-    fn all_take_in(&self, ground: &Ground, block: BlockId, value: Value) -> bool {
-        for source in self.leading_to(block) {
-            if !self.takes_in(ground, block, value, *source) {
+    fn trial_of(&self, ground: &Ground, block: BlockId, place: usize, op: &Op) -> Option<Trial> {
+        let value = result_of(op)?;
+        match self.mate_of(ground, block, op, value) {
+            Some(mate) => Some(Trial {
+                one: Move {
+                    block,
+                    place: as_number(place),
+                    other: mate.block,
+                    other_place: as_number(mate.place),
+                },
+                op: *op,
+                other_op: mate.op,
+                value,
+            }),
+            None => {
+                if self.all_take_in(
+                    ground,
+                    Origins {
+                        block,
+                        other: block,
+                    },
+                    value,
+                ) {
+                    Some(Trial {
+                        one: Move::single(block, as_number(place)),
+                        op: *op,
+                        other_op: *op,
+                        value,
+                    })
+                } else {
+                    None
+                }
+            }
+        }
+    }
+
+    /// The same operation in the other way of the split that leads to a block, if it may be raised from both.
+    fn mate_of(&self, ground: &Ground, block: BlockId, op: &Op, value: Value) -> Option<Mate> {
+        let other = self.other_way(ground, block)?;
+        let mate = self.same_in(other, op)?;
+        if other != 0 && self.all_take_in(ground, Origins { block, other }, value) {
+            Some(mate)
+        } else {
+            None
+        }
+    }
+
+    /// The other way of the split that alone leads to a block, if nothing else leads there either.
+    fn other_way(&self, ground: &Ground, block: BlockId) -> Option<BlockId> {
+        let source = single(self.leading_to(block))?;
+        let other = match ground.graph.blocks.as_slice().get(source as usize) {
+            Some(found) => match &found.exit {
+                Exit::Split { yes, no, .. } => { if *yes == block { *no } else { *yes } }
+                _ => return None,
+            },
+            None => return None,
+        };
+        let _source = single(self.leading_to(other))?;
+        if other == block { None } else { Some(other) }
+    }
+
+    /// The same operation in a block, if it may pass those before it there.
+    fn same_in(&self, block: BlockId, op: &Op) -> Option<Mate> {
+        let ops = self.ops_at(block);
+        for (place, there) in ops.iter().enumerate() {
+            if same_op(op, there) && passes(there, place, ops) {
+                return Some(Mate {
+                    block,
+                    place,
+                    op: *there,
+                });
+            }
+        }
+        None
+    }
+
+    fn all_take_in(&self, ground: &Ground, from: Origins, value: Value) -> bool {
+        for source in self.leading_to(from.block) {
+            if !self.takes_in(ground, from, value, *source) {
                 return false;
             }
         }
         true
     }
 
-    fn takes_in(&self, ground: &Ground, block: BlockId, value: Value, source: BlockId) -> bool {
+    fn takes_in(&self, ground: &Ground, from: Origins, value: Value, source: BlockId) -> bool {
         match ground.graph.blocks.as_slice().get(source as usize) {
-            Some(from) => {
+            Some(found) => {
                 self.ops_at(source).len() < MOST_OPERATIONS
-                    && self.lets_in(ground, block, value, &from.exit)
+                    && self.lets_in(ground, from, value, &found.exit)
             }
             None => false,
         }
     }
 
     /// Whether an exit does not read the value, which is not live at another block that it leads to.
-    fn lets_in(&self, ground: &Ground, block: BlockId, value: Value, exit: &Exit) -> bool {
+    fn lets_in(&self, ground: &Ground, from: Origins, value: Value, exit: &Exit) -> bool {
         match exit {
             Exit::Goto(_) => true,
             Exit::Split { test, yes, no } => {
                 *test != value
-                    && (*yes == block || !self.is_live(ground, *yes, value))
-                    && (*no == block || !self.is_live(ground, *no, value))
+                    && (from.has(*yes) || !self.is_live(ground, *yes, value))
+                    && (from.has(*no) || !self.is_live(ground, *no, value))
             }
             _ => false,
         }
     }
 
     fn put(&mut self, trial: Trial) -> Result<(), NoMemory> {
-        self.take_out(trial.block, trial.place as usize);
-        let count = self.leading_to(trial.block).len();
+        let one = trial.one;
+        self.take_out(one.block, one.place as usize);
+        if trial.is_double() {
+            self.take_out(one.other, one.other_place as usize);
+        }
+        let count = self.leading_to(one.block).len();
         for index in 0..count {
-            self.put_end(trial.block, index, trial.op)?;
+            self.put_end(one.block, index, trial.op)?;
         }
         self.raised.push(trial)?;
         Ok(())
@@ -211,11 +309,15 @@ impl Sketch {
     fn undo(&mut self) -> Result<(), NoMemory> {
         match self.raised.pop() {
             Some(trial) => {
-                let count = self.leading_to(trial.block).len();
+                let one = trial.one;
+                let count = self.leading_to(one.block).len();
                 for index in 0..count {
-                    self.drop_end(trial.block, index);
+                    self.drop_end(one.block, index);
                 }
-                self.put_in(trial)
+                if trial.is_double() {
+                    self.put_in(one.other, one.other_place as usize, trial.other_op)?;
+                }
+                self.put_in(one.block, one.place as usize, trial.op)
             }
             None => Ok(()),
         }
@@ -233,11 +335,11 @@ impl Sketch {
         }
     }
 
-    fn put_in(&mut self, trial: Trial) -> Result<(), NoMemory> {
-        match self.ops.get_mut(trial.block as usize) {
+    fn put_in(&mut self, block: BlockId, place: usize, op: Op) -> Result<(), NoMemory> {
+        match self.ops.get_mut(block as usize) {
             Some(ops) => {
-                if trial.place as usize <= ops.len() {
-                    ops.insert(trial.place as usize, trial.op)?;
+                if place <= ops.len() {
+                    ops.insert(place, op)?;
                 }
                 Ok(())
             }
@@ -249,10 +351,7 @@ impl Sketch {
     pub(crate) fn moves(&self, alloc: Global) -> Result<Listed<Move>, NoMemory> {
         let mut moves = Listed::new(alloc);
         for trial in self.raised.as_slice() {
-            moves.push(Move {
-                block: trial.block,
-                place: trial.place,
-            })?;
+            moves.push(trial.one)?;
         }
         Ok(moves)
     }
@@ -273,6 +372,14 @@ pub(crate) fn as_number(place: usize) -> u32 {
         place as u32
     } else {
         u32::MAX
+    }
+}
+
+/// The one block of a list that has no other.
+fn single(blocks: &[BlockId]) -> Option<BlockId> {
+    match blocks {
+        [block] => Some(*block),
+        _ => None,
     }
 }
 
