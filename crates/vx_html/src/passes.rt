@@ -5,7 +5,10 @@ use std::alloc::Global;
 use vx_base::outcome::NoMemory;
 use vx_dep::copies::word_at;
 use vx_flow::graph::{BlockId, Edge};
+use vx_machine::Machine;
+use vx_machine::items::Item;
 use vx_page::notes::{BlockNote, edges_of, note_of};
+use vx_page::page::small;
 use vx_page::view::TraceView;
 use vx_profile::counts::Counts;
 
@@ -80,7 +83,7 @@ fn begun(counts: &Counts, trace: &TraceView, notes: &[BlockNote]) -> u64 {
     }
 }
 
-/// How often each word of a trace is issued.
+/// How often each word of a trace is issued, and behind that how often its end is passed.
 pub fn passes_of(
     alloc: Global,
     counts: &Counts,
@@ -94,6 +97,8 @@ pub fn passes_of(
         passes.push(flow)?;
         flow = flow.saturating_sub(left(counts, trace, notes, word));
     }
+    let end = entered(counts, trace, notes, trace.placed.length);
+    passes.push(flow.saturating_add(end))?;
     Ok(passes)
 }
 
@@ -105,11 +110,42 @@ pub(crate) fn passes_at(passes: &[u64], word: u32) -> u64 {
     }
 }
 
-/// The cycles of a run in the words of a trace.
-pub fn cycles_of(passes: &[u64]) -> u64 {
+/// The empty cycles behind the last word of a trace, until all its results have landed.
+fn last_drain(machine: &Machine, trace: &TraceView) -> u32 {
+    let ops = trace.placed.clustered.trace.ops.as_slice();
+    let words = trace.placed.words.as_slice();
+    let mut landed = trace.placed.length;
+    for (place, op) in ops.iter().enumerate() {
+        let word = word_at(words, small(place));
+        let latency = machine.latency_of_item(&Item::of_trace(op));
+        landed = landed.max(word.saturating_add(latency));
+    }
+    landed.saturating_sub(trace.placed.length)
+}
+
+/// The empty cycles of a run behind the branches of a trace.
+fn split_drains(counts: &Counts, trace: &TraceView, notes: &[BlockNote]) -> u64 {
     let mut cycles: u64 = 0;
-    for count in passes {
-        cycles = cycles.saturating_add(*count);
+    for split in trace.splits {
+        let passes = edge_passes(counts, trace.function, notes, split.edge);
+        cycles = cycles.saturating_add(passes.saturating_mul(u64::from(split.drain)));
+    }
+    cycles
+}
+
+/// The cycles of a run in the words of a trace, and in the empty ones behind its branches and its end.
+pub fn cycles_of(
+    machine: &Machine,
+    counts: &Counts,
+    trace: &TraceView,
+    notes: &[BlockNote],
+    passes: &[u64],
+) -> u64 {
+    let ends = passes_at(passes, trace.placed.length);
+    let drained = ends.saturating_mul(u64::from(last_drain(machine, trace)));
+    let mut cycles = drained.saturating_add(split_drains(counts, trace, notes));
+    for word in 0..trace.placed.length {
+        cycles = cycles.saturating_add(passes_at(passes, word));
     }
     cycles
 }

@@ -1,7 +1,7 @@
 // Where a run spends its cycles, trace by trace, and what it has the units do there, by the counts of a profile.
 
 use crate::loads::need_of;
-use crate::passes::{cycles_of, passes_at};
+use crate::passes::passes_at;
 use crate::units::percent;
 use vx_base::listed::Bytes;
 use vx_page::operations::bytes_at;
@@ -33,7 +33,7 @@ pub struct Spent {
     pub function: u32,
     /// Its words.
     pub words: u32,
-    /// The cycles in them.
+    /// The cycles in them and in the empty ones behind.
     pub cycles: u64,
     /// The operations done there.
     pub work: Work,
@@ -79,13 +79,13 @@ fn work_of(trace: &TraceView, passes: &[u64]) -> Work {
     work
 }
 
-/// What a run spends in a trace whose words are issued so often.
-pub fn spent_in(trace: &TraceView, passes: &[u64]) -> Spent {
+/// What a run spends in a trace whose words are issued so often, and that takes so many cycles of it.
+pub fn spent_in(trace: &TraceView, passes: &[u64], cycles: u64) -> Spent {
     Spent {
         trace: trace.number,
         function: trace.function,
         words: trace.placed.length,
-        cycles: cycles_of(passes),
+        cycles,
         work: work_of(trace, passes),
     }
 }

@@ -51,7 +51,7 @@ fn put_counted(
     notes: &[BlockNote],
 ) -> Result<(), NoMemory> {
     let passes = passes_of(alloc, given.counts, trace, notes)?;
-    let cycles = cycles_of(passes.as_slice());
+    let cycles = cycles_of(given.machine, given.counts, trace, notes, passes.as_slice());
     put_trace(alloc, page, given.machine, names, trace, notes, cycles)
 }
 
@@ -98,7 +98,8 @@ fn push_spent(
     spent: &mut Vec<Spent>,
 ) -> Result<(), NoMemory> {
     let passes = passes_of(alloc, given.counts, trace, notes)?;
-    spent.push(spent_in(trace, passes.as_slice()))?;
+    let cycles = cycles_of(given.machine, given.counts, trace, notes, passes.as_slice());
+    spent.push(spent_in(trace, passes.as_slice(), cycles))?;
     Ok(())
 }
 
