@@ -5,7 +5,17 @@ use vx_base::outcome::NoMemory;
 use vx_flow::graph::{Block, Flow, Graph, Op, Value};
 use vx_flow::operands::written_by;
 
-/// Whether some block of the graphs writes a value more than once.
+/// How often a block writes a value at least. What two turns would save is not worth that they wait for each other.
+const AGAIN: u32 = 3;
+
+/// Which block wrote a value last, counted from 1, and how often.
+#[derive(Clone, Copy)]
+struct Written {
+    block: usize,
+    times: u32,
+}
+
+/// Whether some block of the graphs writes a value so often.
 pub(crate) fn write_again(alloc: Global, flow: &Flow) -> Result<bool, NoMemory> {
     for graph in flow.functions.as_slice() {
         if writes_again(alloc, graph)? {
@@ -16,12 +26,12 @@ pub(crate) fn write_again(alloc: Global, flow: &Flow) -> Result<bool, NoMemory> 
 }
 
 fn writes_again(alloc: Global, graph: &Graph) -> Result<bool, NoMemory> {
-    let mut writers = vec![in alloc; 0; graph.banks.len()]?;
+    let none = Written { block: 0, times: 0 };
+    let mut writers = vec![in alloc; none; graph.banks.len()]?;
     Ok(has_again(&mut writers, graph.blocks.as_slice()))
 }
 
-/// The same, with the last block that wrote each value, counted from 1.
-fn has_again(writers: &mut Vec<usize>, blocks: &[Block]) -> bool {
+fn has_again(writers: &mut Vec<Written>, blocks: &[Block]) -> bool {
     for (number, block) in blocks.iter().enumerate() {
         if mark_ops(writers, number.saturating_add(1), block.ops.as_slice()) {
             return true;
@@ -30,7 +40,7 @@ fn has_again(writers: &mut Vec<usize>, blocks: &[Block]) -> bool {
     false
 }
 
-fn mark_ops(writers: &mut Vec<usize>, block: usize, ops: &[Op]) -> bool {
+fn mark_ops(writers: &mut Vec<Written>, block: usize, ops: &[Op]) -> bool {
     for op in ops {
         match written_by(op) {
             Some(value) => {
@@ -44,15 +54,18 @@ fn mark_ops(writers: &mut Vec<usize>, block: usize, ops: &[Op]) -> bool {
     false
 }
 
-/// Marks a value as written by a block. The answer is whether it was.
-fn mark(writers: &mut Vec<usize>, block: usize, value: Value) -> bool {
+/// Marks a value as written by a block. The answer is whether it was written often enough.
+fn mark(writers: &mut Vec<Written>, block: usize, value: Value) -> bool {
     let place = value as usize;
     if place >= writers.len() {
         return false;
     }
-    if writers[place] == block {
-        return true;
-    }
-    writers[place] = block;
-    false
+    let last = writers[place];
+    let times = if last.block == block {
+        last.times.saturating_add(1)
+    } else {
+        1
+    };
+    writers[place] = Written { block, times };
+    times >= AGAIN
 }
