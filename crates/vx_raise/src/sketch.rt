@@ -5,6 +5,7 @@ use crate::known::Move;
 use crate::lift_test::{Origins, passes, result_of, same_op};
 use crate::units::Units;
 use std::alloc::Global;
+use vx_base::arithmetic::Code;
 use vx_base::listed::Listed;
 use vx_base::outcome::NoMemory;
 use vx_flow::graph::{Block, BlockId, Exit, Graph, Op, Value};
@@ -143,7 +144,11 @@ impl Sketch {
         }
     }
 
+    /// A move stays where it is: what follows it there reads its source, which need not wait for it.
     fn trial_of(&self, ground: &Ground, block: BlockId, place: usize, op: &Op) -> Option<Trial> {
+        if is_move(op) {
+            return None;
+        }
         let value = result_of(op)?;
         match self.mate_of(ground, block, op, value) {
             Some(mate) => Some(Trial {
@@ -423,5 +428,15 @@ fn note(sources: &mut Vec<Vec<BlockId>>, from: BlockId, to: BlockId) -> Result<(
             Ok(())
         }
         None => Ok(()),
+    }
+}
+
+fn is_move(op: &Op) -> bool {
+    match op {
+        Op::Compute {
+            code: Code::Mov,
+            ..
+        } => true,
+        _ => false,
     }
 }
