@@ -26,7 +26,7 @@ use vx_thread::thread;
 
 /// The graphs of a program from which its words are made: lowered and cleaned, then narrowed by what is known of values, and cleaned
 /// once more; with edges that go straight past tests which they decide; with operations put before the loops that do them in each turn,
-/// and where there are such narrowed and cleaned again.
+/// and where there are such narrowed and cleaned again; and so once more, under names of their own, where a block writes one value thrice.
 pub fn flow_of(alloc: Global, program: &Typed) -> Result<Flow, NoMemory>
     ensures { IfOk result (λ flow. FlowOf (view.program_of program.now.program) flow) }
 {
@@ -125,18 +125,22 @@ pub fn raised_for(
     if units.registers < ENOUGH_TO_RAISE {
         return Ok(flow);
     }
-    let advanced = advance(alloc, flow)?;
-    let narrowed = narrowed_where(alloc, advanced)?;
+    let narrowed = advanced_for(alloc, flow, &units)?;
     let raised = raise(alloc, narrowed, counts, &units)?;
     narrow_inside(alloc, raised)
 }
 
-/// The graphs narrowed where operations were put, so that they are read. Blocks keep their numbers.
-fn narrowed_where(alloc: Global, advanced: Hoisted) -> Result<Flow, NoMemory>
-    requires { is_sound_flow advanced.flow ≡ true }
-    ensures sound { IfOk result (λ flow. is_sound_flow flow ≡ true) }
-    ensures flow { IfOk result (λ flow. (p : Program) → FlowOf p advanced.flow → FlowOf p flow) }
+/// The graphs with counters of loops computed early, where a word has a slot for what that costs, and narrowed where there are such, so
+/// that they are read. Blocks keep their numbers.
+fn advanced_for(alloc: Global, flow: Flow, units: &Units) -> Result<Flow, NoMemory>
+    requires { is_sound_flow flow ≡ true }
+    ensures sound { IfOk result (λ narrowed. is_sound_flow narrowed ≡ true) }
+    ensures flow { IfOk result (λ narrowed. (p : Program) → FlowOf p flow → FlowOf p narrowed) }
 {
+    if units.first_slots < 2 {
+        return Ok(flow);
+    }
+    let advanced = advance(alloc, flow)?;
     if advanced.has_more {
         narrow(alloc, advanced.flow)
     } else {
