@@ -26,7 +26,8 @@ use vx_thread::thread;
 
 /// The graphs of a program from which its words are made: lowered and cleaned, then narrowed by what is known of values, and cleaned
 /// once more; with edges that go straight past tests which they decide; with operations put before the loops that do them in each turn,
-/// and where there are such narrowed and cleaned again; and so once more, under names of their own, where a block writes one value thrice.
+/// and where there are such narrowed and cleaned again; and so once more, under names of their own, where a block of a graph with a loop
+/// writes one value thrice.
 pub fn flow_of(alloc: Global, program: &Typed) -> Result<Flow, NoMemory>
     ensures { IfOk result (λ flow. FlowOf (view.program_of program.now.program) flow) }
 {

@@ -1,8 +1,8 @@
-// Whether a block writes one value again and again, as the turns of an unrolled loop do.
+// Whether a block of a graph with a loop writes one value again and again, as the turns of an unrolled loop do.
 
 use std::alloc::Global;
 use vx_base::outcome::NoMemory;
-use vx_flow::graph::{Block, Flow, Graph, Op, Value};
+use vx_flow::graph::{Block, BlockId, Exit, Flow, Graph, Op, Value};
 use vx_flow::operands::written_by;
 
 /// How often a block writes a value at least. What two turns would save is not worth that they wait for each other.
@@ -15,14 +15,36 @@ struct Written {
     times: u32,
 }
 
-/// Whether some block of the graphs writes a value so often.
+/// Whether some block of a graph with a loop writes a value so often.
 pub(crate) fn write_again(alloc: Global, flow: &Flow) -> Result<bool, NoMemory> {
     for graph in flow.functions.as_slice() {
-        if writes_again(alloc, graph)? {
+        if goes_back(graph.blocks.as_slice()) && writes_again(alloc, graph)? {
             return Ok(true);
         }
     }
     Ok(false)
+}
+
+/// Whether a block leads to itself or to one before it: code without loops is left as it is, since it runs once.
+fn goes_back(blocks: &[Block]) -> bool {
+    for (number, block) in blocks.iter().enumerate() {
+        if leads_back(number, &block.exit) {
+            return true;
+        }
+    }
+    false
+}
+
+fn leads_back(number: usize, exit: &Exit) -> bool {
+    match exit {
+        Exit::Goto(to) | Exit::Call { next: to, .. } => is_before(*to, number),
+        Exit::Split { yes, no, .. } => is_before(*yes, number) || is_before(*no, number),
+        Exit::Return(_) | Exit::Ends(_) => false,
+    }
+}
+
+fn is_before(block: BlockId, number: usize) -> bool {
+    block as usize <= number
 }
 
 fn writes_again(alloc: Global, graph: &Graph) -> Result<bool, NoMemory> {
