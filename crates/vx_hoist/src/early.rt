@@ -83,38 +83,12 @@ fn advance_in(
     }
     match fork_of(blocks, loops, header) {
         Some(fork) => {
-            if has_room(blocks, fork) && !is_diamond(blocks, fork) {
+            if has_room(blocks, fork) {
                 advance_behind(blocks, loops, order, fork, unnamed, additions)?;
             }
             Ok(())
         }
         None => Ok(()),
-    }
-}
-
-/// Whether both ways of a block's test do something and meet again at once: then what follows may be raised from both ways together, and
-/// needs no value of its own.
-fn is_diamond(blocks: &[Block], fork: usize) -> bool {
-    match blocks.get(fork) {
-        Some(block) => match &block.exit {
-            Exit::Split { yes, no, .. } => match (meets_at(blocks, *yes), meets_at(blocks, *no)) {
-                (Some(one), Some(other)) => one == other,
-                _ => false,
-            },
-            _ => false,
-        },
-        None => false,
-    }
-}
-
-/// Where a block that does something leads by a jump.
-fn meets_at(blocks: &[Block], block: BlockId) -> Option<BlockId> {
-    match blocks.get(block as usize) {
-        Some(side) => match &side.exit {
-            Exit::Goto(next) if !side.ops.is_empty() => Some(*next),
-            _ => None,
-        },
-        None => None,
     }
 }
 
