@@ -1,6 +1,6 @@
 -- An operation on states that agree on what it reads leaves alike. It reads in s and t and writes onto s0 and t0, so that it
 -- serves the operations of a word too.
-use Rattle.std.proofs.Common.{◌≡◌, inl, inr, ℕ, ℤ, Bool, true, false, cond, ◌==◌, List, [], ◌∷◌, ◌++◌, length, map, slice_set, slice_index_or, Option, Some, None, refl, sym, ap, subst, ◌∙◌, eq-eqb}
+use Rattle.std.proofs.Common.{◌≡◌, inl, inr, ℕ, ℤ, pos, Bool, true, false, cond, ◌==◌, List, [], ◌∷◌, ◌++◌, length, map, slice_set, slice_index_or, Option, Some, None, refl, sym, ap, subst, ◌∙◌, eq-eqb}
 use Rattle.std.proofs.lemmas.Bool.{false≢true}
 use Rattle.std.specs.List.{flat_map}
 use Rattle.std.specs.Fmt.{signed_decimal}
@@ -8,8 +8,8 @@ use Rattle.vx_base.specs.Arithmetic.{value_of, one_if}
 use Rattle.vx_flow.specs.declared.graph.Operand.{Operand}
 use Rattle.vx_flow.specs.declared.graph.Operand.TheVariants.{Held, Number, Stack}
 use Rattle.vx_flow.specs.declared.graph.Op.{Op}
-use Rattle.vx_flow.specs.declared.graph.Op.TheVariants.{Compute, Select, Place, Load, Store, More, Input, Text, Decimal, Across}
-use Rattle.vx_flow.specs.Effects.{Content, State, Setting, IsIn, held, is_unary, both, computed, is_one, chosen, place_of, row_of, cell_in, is_left, text_at, with_value, with_cell, loaded, stored, next_input, printed, effect, value_in, reads, writes}
+use Rattle.vx_flow.specs.declared.graph.Op.TheVariants.{Compute, Select, Place, Load, Store, More, Input, Text, Decimal, Across, Base, PlaceIn}
+use Rattle.vx_flow.specs.Effects.{Content, State, Setting, IsIn, held, is_unary, both, computed, is_one, chosen, place_of, place_by, row_of, cell_in, is_left, text_at, with_value, with_cell, loaded, stored, next_input, printed, effect, value_in, reads, writes}
 use Rattle.vx_flow.specs.Meaning.{with_front, known}
 use Rattle.vx_flow.specs.Agree.{SameWorld, Agree}
 use Rattle.vx_flow.proofs.Members.{in_left, in_right}
@@ -62,6 +62,10 @@ chosen_refined (Some z) x' a b a' b' r h k n e = subst (λ q. chosen q a' b' ≡
 place_refined : (x x' : Content) → Refined x x' → Refined (place_of x) (place_of x')
 place_refined None x' r n e = absurd (cc)
 place_refined (Some i) x' r n e = subst (λ q. place_of q ≡ Some n) (sym (r i refl)) e
+
+pub place_by_refined : (b b' x x' : Content) → Refined b b' → Refined x x' → Refined (place_by b x) (place_by b' x')
+place_by_refined None b' x x' q r n e = absurd (cc)
+place_by_refined (Some k) b' x x' q r n e = subst (λ z. place_by z x' ≡ Some n) (sym (q k refl)) (place_refined x x' r n e)
 
 -- what is written
 
@@ -175,6 +179,11 @@ effect_alike lives setting (Input v) s t s0 t0 s' w w0 k o e = input_done lives 
 effect_alike lives setting (Text n) s t s0 t0 s' w w0 k o e = out_done lives s0 t0 s' (s.out ++ text_at setting n) (t.out ++ text_at setting n) w0 o (ap (λ p. p ++ text_at setting n) w.out) e
 effect_alike lives setting (Decimal x) s t s0 t0 s' w w0 k o e = printed_done lives s0 t0 s' s.out t.out (held s x) (held t x) w0 o w.out (held_refined s t x k) e
 effect_alike lives setting (Across v u) s t s0 t0 s' w w0 k o e = value_done lives s0 t0 s' v (s.values u) (t.values u) w0 o (k u (inl refl)) e
+effect_alike lives setting (Base v a x) s t s0 t0 s' w w0 k o e =
+    value_done lives s0 t0 s' v (Some (pos (setting.spot a))) (Some (pos (setting.spot a))) w0 o (λ n f. f) e
+effect_alike lives setting (PlaceIn v a u i) s t s0 t0 s' w w0 k o e =
+    value_done lives s0 t0 s' v (place_by (s.values u) (held s i)) (place_by (t.values u) (held t i)) w0 o
+    (place_by_refined (s.values u) (t.values u) (held s i) (held t i) (knows_right (value_in i) (u ∷ []) s t k u (inl refl)) (held_refined s t i (knows_left (value_in i) (u ∷ []) s t k))) e
 
 -- what is known of some operands, in both
 

@@ -4,6 +4,7 @@ pub mod Members
 pub mod OperandLaws
 pub mod Apart
 pub mod Passed
+pub mod Entering
 pub mod IndexSteps
 pub mod Touches
 pub mod LiveRoutes
@@ -16,8 +17,10 @@ pub mod SoundLeads
 pub mod SoundLists
 pub mod SoundNames
 pub mod SoundPlaces
+pub mod SoundBases
 pub mod SoundLaw
 pub mod SoundFlowLaw
 pub mod EffectsAlike
 pub mod HopsAlike
 pub mod Remaining
+pub mod Handing

@@ -1,12 +1,12 @@
 -- What is noted of an operation are the values that it reads and writes, and so is what is added to lists of them.
-use Rattle.std.proofs.Common.{◌≡◌, inl, inr, ℕ, refl, sym, ◌∙◌, ap, append_assoc, Bool, true, false, if◌then◌else◌, Option, None, List, [], ◌∷◌, ◌++◌}
+use Rattle.std.proofs.Common.{◌≡◌, inl, inr, ℕ, refl, sym, ◌∙◌, ap, append_assoc, Bool, true, false, if◌then◌else◌, Option, Some, None, List, [], ◌∷◌, ◌++◌}
 use Rattle.std.proofs.lemmas.List.{map-append}
 use Rattle.vx_base.specs.declared.arithmetic.Code.{Code}
 use Rattle.vx_base.specs.declared.arithmetic.Code.TheVariants.{Add, Sub, And, Or, Xor, Shl, Shr, Shru, Sh2add, Max, Min, Mov, ToGeneral, ToBranch, Mpylu, Mpyhs, Div, Rem}
 use Rattle.vx_flow.specs.declared.graph.Operand.{Operand}
 use Rattle.vx_flow.specs.declared.graph.Operand.TheVariants.{Held, Number, Stack}
 use Rattle.vx_flow.specs.declared.graph.Op.{Op}
-use Rattle.vx_flow.specs.declared.graph.Op.TheVariants.{Compute, Select, Place, Load, Store, More, Input, Text, Decimal, Across}
+use Rattle.vx_flow.specs.declared.graph.Op.TheVariants.{Compute, Select, Place, Load, Store, More, Input, Text, Decimal, Across, Base, PlaceIn}
 use Rattle.vx_flow.specs.declared.operands.Reads.{Reads}
 use Rattle.vx_flow.specs.declared.routes.Touch.{Touch}
 use Rattle.vx_flow.specs.Effects.{IsIn, is_unary, value_in, reads, writes}
@@ -39,6 +39,11 @@ computed_read : (unary : Bool) (x y : Operand) → values_read (if unary then re
 computed_read true x y = one_read x
 computed_read false x y = two_read x y
 
+placed_read : (x : Operand) (u : ℕ) → values_read (reads_three (held_by x) (Some u) None) ≡ value_in x ++ u ∷ []
+placed_read (Held v) u = refl
+placed_read (Number n) u = refl
+placed_read Stack u = refl
+
 pub reads_are : (op : Op) → values_read (read_by op) ≡ reads op
 reads_are (Compute code v a b) = computed_read (is_unary code) a b
 reads_are (Select v p a b) = ap (λ vs. p ∷ vs) (both_held a b)
@@ -50,6 +55,8 @@ reads_are (Input v) = refl
 reads_are (Text n) = refl
 reads_are (Decimal x) = one_read x
 reads_are (Across v u) = refl
+reads_are (Base v a x) = refl
+reads_are (PlaceIn v a u i) = placed_read i u
 
 pub writes_are : (op : Op) → value_list (written_by op) ≡ writes op
 writes_are (Compute code v a b) = refl
@@ -62,6 +69,8 @@ writes_are (Input v) = refl
 writes_are (Text n) = refl
 writes_are (Decimal x) = refl
 writes_are (Across v u) = refl
+writes_are (Base v a x) = refl
+writes_are (PlaceIn v a u i) = refl
 
 -- what a call answers about an operation, as lists
 

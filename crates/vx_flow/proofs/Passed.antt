@@ -5,7 +5,7 @@ use Rattle.std.specs.Prelude.{◌&&◌, not, if◌then◌else◌}
 use Rattle.std.proofs.lemmas.Bool.{cases_lt, lt-ltb, le-ltb, false≢true}
 use Rattle.vx_flow.specs.declared.graph.Array.{Array}
 use Rattle.vx_flow.specs.Sound.{is_given, has_base, is_own_array}
-use Rattle.vx_flow.specs.Apart.{array_of, array_in, AreApart, StandApart, GlobalsFirst, Aligned, PassedBelow}
+use Rattle.vx_flow.specs.Apart.{array_of, array_in, StandApart, GlobalsFirst, Aligned, PassedBelow}
 use Rattle.vx_flow.specs.Meaning.{spot_in, spot_behind}
 
 -- ---- behind the globals

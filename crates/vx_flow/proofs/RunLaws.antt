@@ -5,14 +5,14 @@ use Rattle.vx_base.specs.Outcome.{Outcome, Begins, Steady, Step, On, Over, outpu
 use Rattle.vx_base.proofs.Same.{begins_self, begins_on}
 use Rattle.vx_base.proofs.Runs.{Grows, run_steady}
 use Rattle.vx_flow.specs.declared.graph.Op.{Op}
-use Rattle.vx_flow.specs.declared.graph.Op.TheVariants.{Compute, Select, Place, Load, Store, More, Input, Text, Decimal, Across}
+use Rattle.vx_flow.specs.declared.graph.Op.TheVariants.{Compute, Select, Place, Load, Store, More, Input, Text, Decimal, Across, Base, PlaceIn}
 use Rattle.vx_flow.specs.declared.graph.Exit.{Exit}
 use Rattle.vx_flow.specs.declared.graph.Exit.TheVariants.{Goto, Split, Call, Return, Ends}
 use Rattle.vx_flow.specs.declared.graph.Block.{Block}
 use Rattle.vx_flow.specs.declared.graph.Graph.{Graph}
 use Rattle.vx_flow.specs.declared.graph.Flow.{Flow}
 use Rattle.vx_flow.specs.Effects.{Content, State, Setting, held, is_one, effect, loaded, stored, next_input, printed, text_at}
-use Rattle.vx_flow.specs.Meaning.{Hop, Arrives, Calls, Leaves, Stops, Wrong, known, by_test, calls, leaves, leave, and_then, block_hop, hop_of, Body, Program, Frame, Active, deepest, enters, returned, waits, after_hop, body_hop, hop, next, body_of, program_of, setting_with, start, graph_run}
+use Rattle.vx_flow.specs.Meaning.{Hop, Arrives, Calls, Leaves, Stops, Wrong, known, by_test, calls, leaves, leave, and_then, block_hop, hop_of, Body, Program, Frame, Active, deepest, at_entry, spots_held, enters_passed, enters, returned, waits, after_hop, body_hop, hop, next, body_of, program_of, setting_with, start, graph_run}
 use Rattle.std.specs.Fmt.{signed_decimal}
 
 longer : (xs ys : List ℕ) → Begins xs (xs ++ ys)
@@ -52,6 +52,8 @@ effect_keeps setting s (Input v) = input_keeps s v s.input
 effect_keeps setting s (Text n) = longer s.out (text_at setting n)
 effect_keeps setting s (Decimal x) = printed_keeps s (held s x)
 effect_keeps setting s (Across v u) = begins_self s.out
+effect_keeps setting s (Base v a x) = begins_self s.out
+effect_keeps setting s (PlaceIn v a u i) = begins_self s.out
 
 abbrev HopKeeps : List ℕ → Hop → Type 0
 HopKeeps out (Arrives from to t) = Begins out t.out
@@ -114,7 +116,11 @@ body_keeps p r (Some body) k = k (setting_with p r.passed r.base) r.block r.stat
 
 enters_keeps : (out : List ℕ) (g : ℕ) (o : Option Body) (xs : List ℤ) (s : State) (fs : List Frame) → Begins out s.out → StepKeeps out (enters g o xs s fs)
 enters_keeps out g None xs s fs k = k
-enters_keeps out g (Some body) xs s fs k = k
+enters_keeps out g (Some body) xs s fs k = by (spots_held (length s.arrays) (at_entry body.parameters xs) body.bases)
+  where
+    by : (o : Option (List (Option ℕ))) → StepKeeps out (enters_passed g body xs s fs o)
+    by None = k
+    by (Some passed) = k
 
 returned_keeps : (out : List ℕ) (n : ℤ) (s : State) (base : ℕ) (fs : List Frame) → Begins out s.out → StepKeeps out (returned n s base fs)
 returned_keeps out n s base [] k = k

@@ -8,7 +8,7 @@ use Rattle.vx_flow.specs.declared.graph.Bank.{Bank}
 use Rattle.vx_flow.specs.declared.graph.Block.{Block}
 use Rattle.vx_flow.specs.declared.graph.Graph.{Graph}
 use Rattle.vx_flow.specs.Effects.{IsIn}
-use Rattle.vx_flow.specs.Sound.{is_sound, is_sound_block, is_sound_exit, is_sound_in, is_general, is_branch, is_operand, is_general_or_none}
+use Rattle.vx_flow.specs.Sound.{is_sound, is_sound_block, is_sound_exit, is_sound_in, is_array_kept, is_general, is_branch, is_operand, is_general_or_none}
 use Rattle.vx_flow.specs.Walk.{successors_in, successors_of}
 use Rattle.vx_flow.specs.Walking.{LeadWithin}
 
@@ -52,7 +52,7 @@ exit_within banks n (Ends k) x h m = absurd m
 leads_by : (g : Graph) (b : ℕ) (o : Option Block) → slice_get g.blocks b ≡ o → is_sound g ≡ true → (c : ℕ) → IsIn c (successors_in o) → c < length g.blocks
 leads_by g b None e h c m = absurd m
 leads_by g b (Some k) e h c m =
-    let s : is_sound_block g k ≡ true = all_get (is_sound_block g) g.blocks b k (and_two (list_all (is_general g.banks) g.parameters) (list_all (is_sound_block g) g.blocks) h) e in
+    let s : is_sound_block g k ≡ true = all_get (is_sound_block g) g.blocks b k (and_two (list_all (is_general g.banks) g.parameters) (list_all (is_sound_block g) g.blocks) (and_one (list_all (is_general g.banks) g.parameters && list_all (is_sound_block g) g.blocks) (list_all (is_array_kept g) g.arrays) h)) e in
     exit_within g.banks (length g.blocks) k.exit c (and_two (list_all (is_sound_in g) k.ops) (is_sound_exit g.banks (length g.blocks) k.exit) s) m
 
 pub sound_leads_within : (g : Graph) → is_sound g ≡ true → LeadWithin g

@@ -1,6 +1,7 @@
 -- Tests of lists and of their items, in both directions.
-use Rattle.std.proofs.Common.{◌≡◌, ◌⊎◌, inl, inr, ℕ, zero, suc, ◌<◌, Bool, true, false, ◌==◌, ◌||◌, List, [], ◌∷◌, slice_get, Some, refl, sym, ap, subst, ◌∙◌, eq-eqb, arith}
+use Rattle.std.proofs.Common.{◌≡◌, ◌⊎◌, inl, inr, ℕ, zero, suc, ◌<◌, Bool, true, false, ◌==◌, ◌||◌, ◌+◌, List, [], ◌∷◌, length, take, get_or, slice_get, Some, refl, sym, ap, subst, ◌∙◌, eq-eqb, arith}
 use Rattle.std.proofs.lemmas.Bool.{and_parts, false≢true, eqb-true}
+use Rattle.std.proofs.lemmas.List.Folds.{list_any_more}
 use Rattle.std.specs.Cmp.Derive.{both_true}
 use Rattle.std.specs.List.{list_all, list_any}
 use Rattle.std.specs.Prelude.{not}
@@ -56,6 +57,10 @@ all_at p (y ∷ ys) (suc i) x h e = all_at p ys i x (and_parts _ _ h).1 e
 pub all_of_at : {A : Type 0} (p : A → Bool) (xs : List A) → ((i : ℕ) (x : A) → slice_get xs i ≡ Some x → p x ≡ true) → list_all p xs ≡ true
 all_of_at p [] f = refl
 all_of_at p (y ∷ ys) f = both_true (f zero y refl) (all_of_at p ys (λ i x e. f (suc i) x e))
+
+-- a turn of a loop that tests the items one by one
+pub any_more : {A : Type 0} (p : A → Bool) (xs : List A) (i : ℕ) (d : A) (b : Bool) → i < length xs → list_any p (take i xs) ≡ false → b ≡ p (get_or xs i d) → b ≡ false → list_any p (take (i + 1) xs) ≡ false
+any_more p xs i d b lt e h k = list_any_more p xs i d lt ∙ ap (λ z. z || p (get_or xs i d)) e ∙ sym h ∙ k
 
 -- some item
 

@@ -10,7 +10,7 @@ use Rattle.vx_flow.specs.declared.graph.Operand.TheVariants.{Held, Number, Stack
 use Rattle.vx_flow.specs.declared.graph.Bank.{Bank}
 use Rattle.vx_flow.specs.declared.graph.Bank.TheVariants.{General, Branch}
 use Rattle.vx_flow.specs.declared.graph.Op.{Op}
-use Rattle.vx_flow.specs.declared.graph.Op.TheVariants.{Compute, Select, Place, Load, Store, More, Input, Text, Decimal, Across}
+use Rattle.vx_flow.specs.declared.graph.Op.TheVariants.{Compute, Select, Place, Load, Store, More, Input, Text, Decimal, Across, Base, PlaceIn}
 use Rattle.vx_flow.specs.declared.graph.Exit.{Exit}
 use Rattle.vx_flow.specs.declared.graph.Exit.TheVariants.{Goto, Split, Call, Return, Ends}
 use Rattle.vx_flow.specs.declared.graph.Graph.{Graph}
@@ -93,6 +93,10 @@ operands_are g (Input v) x h m = absurd m
 operands_are g (Text n) x h m = absurd m
 operands_are g (Decimal y) x h m = one_operand g y x (operand_is g y h) m
 operands_are g (Across v u) x h m = absurd m
+operands_are g (Base v a y) x h m = absurd m
+operands_are g (PlaceIn v a u i) x h m =
+    let (abc, d) = and_parts _ _ h in
+    two_operands g i (Held u) x (operand_is g i d) (general_is g u (and_parts _ _ abc).1) m
 
 compute_result : (g : Graph) (code : Code) (v : ℕ) (a b : Operand) → is_written g.banks code v ≡ true → Has g v (bank_written (Compute code v a b))
 compute_result g (ToBranch compare) v a b h = branch_is g v h
@@ -121,6 +125,11 @@ results_are g (Input u) v h m = written_is g General u v (general_is g u h) m
 results_are g (Text n) v h m = absurd m
 results_are g (Decimal y) v h m = absurd m
 results_are g (Across u w) v h m = absurd (false≢true h)
+results_are g (Base u a x) v h m = written_is g General u v (general_is g u (and_parts _ _ h).0) m
+results_are g (PlaceIn u a w i) v h m =
+    let (abc, d) = and_parts _ _ h in
+    let (ab, c) = and_parts _ _ abc in
+    written_is g General u v (general_is g u (and_parts _ _ ab).0) m
 
 pub tests_are : (g : Graph) (op : Op) (v : ℕ) → is_sound_operation g.banks (length g.arrays) op ≡ true → IsIn v (tests_of op) → Has g v Branch
 tests_are g (Compute code u a b) v h m = absurd m
@@ -136,6 +145,8 @@ tests_are g (Input u) v h m = absurd m
 tests_are g (Text n) v h m = absurd m
 tests_are g (Decimal y) v h m = absurd m
 tests_are g (Across u w) v h m = absurd m
+tests_are g (Base u a x) v h m = absurd m
+tests_are g (PlaceIn u a w i) v h m = absurd m
 
 array_is : (n a b : ℕ) → nat_lt a n ≡ true → IsIn b (a ∷ []) → b < n
 array_is n a b h m = subst (λ c. c < n) (sym (in_one b a m)) (ltb-true a n h)
@@ -157,6 +168,11 @@ arrays_are g (Input u) a h m = absurd m
 arrays_are g (Text n) a h m = absurd m
 arrays_are g (Decimal y) a h m = absurd m
 arrays_are g (Across u w) a h m = absurd m
+arrays_are g (Base u b x) a h m = array_is (length g.arrays) b a (and_parts _ _ h).1 m
+arrays_are g (PlaceIn u b w i) a h m =
+    let (abc, d) = and_parts _ _ h in
+    let (ab, c) = and_parts _ _ abc in
+    array_is (length g.arrays) b a (and_parts _ _ ab).1 m
 
 -- what is to be shown of an operation by itself
 pub record Named (g : Graph) (op : Op) : Type 0 where
@@ -187,6 +203,9 @@ operation_of g (Input v) n = general_of g v (n.results v (inl refl))
 operation_of g (Text number) n = refl
 operation_of g (Decimal x) n = operand_of g x (n.operands x (inl refl))
 operation_of g (Across v u) n = absurd (n.no_across v u refl)
+operation_of g (Base v a x) n = both_true (general_of g v (n.results v (inl refl))) (lt-ltb a (length g.arrays) (n.arrays a (inl refl)))
+operation_of g (PlaceIn v a u i) n =
+    both_true (both_true (both_true (general_of g v (n.results v (inl refl))) (lt-ltb a (length g.arrays) (n.arrays a (inl refl)))) (general_of g u (n.operands (Held u) (inr (inl refl))))) (operand_of g i (n.operands i (inl refl)))
 
 -- what an exit names
 

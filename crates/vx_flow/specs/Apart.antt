@@ -1,6 +1,8 @@
 -- Which arrays of a function share no word, and where they stand then.
-use Rattle.std.specs.Prelude.{◌≡◌, ◌+◌, ◌<◌, ℕ, Bool, true, false, not, ◌==◌, if◌then◌else◌, Option, Some, None, List, slice_get, slice_index_or}
+use Rattle.std.specs.Prelude.{◌≡◌, ◌+◌, ◌<◌, ℕ, Bool, true, false, not, ◌==◌, if◌then◌else◌, Option, Some, None, List, length, slice_get, slice_index_or}
 use Rattle.vx_flow.specs.declared.graph.Array.{Array}
+use Rattle.vx_flow.specs.declared.graph.Graph.{Graph}
+use Rattle.vx_flow.specs.declared.graph.Flow.{Flow}
 use Rattle.vx_flow.specs.Sound.{is_given, has_base, is_own_array}
 
 -- array a of a function, with its number there as `named`; one that is not there has no words
@@ -26,6 +28,10 @@ may_meet arrays a b = not (are_apart (array_in arrays a) (array_in arrays b))
 -- arrays of these numbers are global
 abbrev pub GlobalsFirst : (globals : ℕ) → List Array → Type 0
 GlobalsFirst globals arrays = (a : ℕ) → a < globals → (array_in arrays a).global ≡ true
+
+-- so in each function of a program
+abbrev pub HasGlobalsFirst : Flow → Type 0
+HasGlobalsFirst flow = (f : ℕ) (g : Graph) → slice_get flow.functions f ≡ Some g → GlobalsFirst (length flow.globals) g.arrays
 
 -- by the places behind the globals, a spot is passed for each array with a base and for no other
 abbrev pub Aligned : (globals : ℕ) → List Array → List (Option ℕ) → Type 0

@@ -8,7 +8,7 @@ use Rattle.vx_base.specs.declared.arithmetic.Code.TheVariants.{Mov}
 use Rattle.vx_flow.specs.declared.graph.Operand.{Operand}
 use Rattle.vx_flow.specs.declared.graph.Operand.TheVariants.{Held, Number, Stack}
 use Rattle.vx_flow.specs.declared.graph.Op.{Op}
-use Rattle.vx_flow.specs.declared.graph.Op.TheVariants.{Compute, Select, Place, Load, Store, More, Input, Text, Decimal, Across}
+use Rattle.vx_flow.specs.declared.graph.Op.TheVariants.{Compute, Select, Place, Load, Store, More, Input, Text, Decimal, Across, Base, PlaceIn}
 
 -- what a value or a word of an array holds: a number, or None where it is undefined, as before it is first written
 abbrev pub Content : Type 0
@@ -61,6 +61,11 @@ abbrev pub place_of : Content → Content
 place_of None = None
 place_of (Some index) = Some (product_of (pos 4) index)
 
+-- the same in an array that was handed over; none where its base is none
+abbrev pub place_by : (base index : Content) → Content
+place_by None i = None
+place_by (Some k) i = place_of i
+
 abbrev pub row_of : State → ℕ → List Content
 row_of s a = slice_index_or s.arrays a []
 
@@ -108,7 +113,8 @@ abbrev pub printed : State → List ℕ → Content → Option State
 printed t out None = None
 printed t out (Some n) = Some (record t { out = out ++ signed_decimal n })
 
--- the operation reads in s and writes onto t; None where it has no meaning
+-- the operation reads in s and writes onto t; None where it has no meaning. The base of an array is where it stands, whatever
+-- operand it is made from in words
 abbrev pub effect : Setting → State → Op → State → Option State
 effect setting s (Compute code v a b) t = Some (with_value t v (computed code (held s a) (held s b)))
 effect setting s (Select v p a b) t = Some (with_value t v (chosen (s.values p) (held s a) (held s b)))
@@ -120,6 +126,8 @@ effect setting s (Input v) t = next_input t v s.input
 effect setting s (Text n) t = Some (record t { out = s.out ++ text_at setting n })
 effect setting s (Decimal x) t = printed t s.out (held s x)
 effect setting s (Across v u) t = Some (with_value t v (s.values u))
+effect setting s (Base v a x) t = Some (with_value t v (Some (pos (setting.spot a))))
+effect setting s (PlaceIn v a u i) t = Some (with_value t v (place_by (s.values u) (held s i)))
 
 -- the same so that it always has a meaning: every load may be dismissed, a store or a printing that has no meaning does
 -- nothing, and the number that is read where none is left is undefined
@@ -157,6 +165,8 @@ reads (Input v) = []
 reads (Text n) = []
 reads (Decimal x) = value_in x
 reads (Across v u) = u ∷ []
+reads (Base v a x) = []
+reads (PlaceIn v a u i) = value_in i ++ u ∷ []
 
 abbrev pub writes : Op → List ℕ
 writes (Compute code v a b) = v ∷ []
@@ -169,6 +179,8 @@ writes (Input v) = v ∷ []
 writes (Text n) = []
 writes (Decimal x) = []
 writes (Across v u) = v ∷ []
+writes (Base v a x) = v ∷ []
+writes (PlaceIn v a u i) = v ∷ []
 
 -- the locations of a state: its values, the words of its arrays, the input that is left, the output
 
@@ -213,6 +225,8 @@ ReadsBesides setting s (Input v) l = l ≡ TheInput
 ReadsBesides setting s (Text n) l = l ≡ TheOutput
 ReadsBesides setting s (Decimal x) l = l ≡ TheOutput
 ReadsBesides setting s (Across v u) l = ⊥
+ReadsBesides setting s (Base v a x) l = ⊥
+ReadsBesides setting s (PlaceIn v a u i) l = ⊥
 
 abbrev pub WritesBesides : Setting → State → Op → Location → Type 0
 WritesBesides setting s (Compute code v a b) l = ⊥
@@ -225,6 +239,8 @@ WritesBesides setting s (Input v) l = l ≡ TheInput
 WritesBesides setting s (Text n) l = l ≡ TheOutput
 WritesBesides setting s (Decimal x) l = l ≡ TheOutput
 WritesBesides setting s (Across v u) l = ⊥
+WritesBesides setting s (Base v a x) l = ⊥
+WritesBesides setting s (PlaceIn v a u i) l = ⊥
 
 abbrev pub ReadsAt : Setting → State → Op → Location → Type 0
 ReadsAt setting s op l = IsOf (reads op) l ⊎ ReadsBesides setting s op l

@@ -1,5 +1,5 @@
 -- What the graphs of a program do: block by block, with the functions that wait for a call to return.
-use Rattle.std.specs.Prelude.{ℕ, zero, suc, ◌+◌, ◌-◌, ◌==◌, ℤ, pos, nat_lt, nat_le, if◌then◌else◌, Option, Some, None, List, [], ◌∷◌, ◌++◌, length, map, take, drop, replicate, slice_get, slice_set}
+use Rattle.std.specs.Prelude.{ℕ, zero, suc, ◌+◌, ◌-◌, ◌==◌, ℤ, pos, negsuc, nat_lt, nat_le, if◌then◌else◌, Option, Some, None, List, [], ◌∷◌, ◌++◌, length, map, take, drop, replicate, slice_get, slice_set}
 use Rattle.std.specs.Option.{option_map}
 use Rattle.vx_base.specs.Outcome.{Outcome, Ends as EndsWith, Traps, Step, On, Over, run}
 use Rattle.vx_base.specs.declared.outcome.Trap.{Trap}
@@ -8,6 +8,7 @@ use Rattle.vx_flow.specs.declared.graph.Op.{Op}
 use Rattle.vx_flow.specs.declared.graph.Exit.{Exit}
 use Rattle.vx_flow.specs.declared.graph.Exit.TheVariants.{Goto, Split, Call, Return, Ends}
 use Rattle.vx_flow.specs.declared.graph.Block.{Block}
+use Rattle.vx_flow.specs.declared.graph.Array.{Array}
 use Rattle.vx_flow.specs.declared.graph.Graph.{Graph}
 use Rattle.vx_flow.specs.declared.graph.Global.{Global}
 use Rattle.vx_flow.specs.declared.graph.Flow.{Flow}
@@ -68,10 +69,12 @@ hop_of setting b (Some block) s = block_hop setting b block.ops block.exit s
 
 -- functions
 
--- what the run of a program needs of a function: the values that hold its arguments, the words of each of its own
--- arrays, and what it does from each of its blocks
+-- what the run of a program needs of a function: the values that hold its arguments, those of them that hold where an array
+-- stands, by the places of these arrays behind the globals and up to the last of them, the words of each of its own arrays,
+-- and what it does from each of its blocks
 pub record Body : Type 0 where
   pub parameters : List ℕ
+  pub bases : List (Option ℕ)
   pub own : List ℕ
   pub hop : Setting → (block : ℕ) → State → Hop
 
@@ -144,9 +147,42 @@ undefined words = replicate words None
 abbrev pub entered : Body → List ℤ → State → State
 entered body arguments s = record s { values = at_entry body.parameters arguments; arrays = s.arrays ++ map undefined body.own }
 
+-- the spot that a base holds, where it is that of one of so many arrays
+abbrev pub spot_held : (arrays : ℕ) → Content → Option ℕ
+spot_held arrays None = None
+spot_held arrays (Some (negsuc n)) = None
+spot_held arrays (Some (pos k)) = if nat_lt k arrays then Some k else None
+
+abbrev pub with_spot : Option ℕ → Option (List (Option ℕ)) → Option (List (Option ℕ))
+with_spot None passed = None
+with_spot (Some k) None = None
+with_spot (Some k) (Some passed) = Some (Some k ∷ passed)
+
+abbrev pub without_spot : Option (List (Option ℕ)) → Option (List (Option ℕ))
+without_spot None = None
+without_spot (Some passed) = Some (None ∷ passed)
+
+-- the spots that are passed, where each base holds one
+abbrev pub spots_held : (arrays : ℕ) → (ℕ → Content) → (bases : List (Option ℕ)) → Option (List (Option ℕ))
+spots_held arrays values [] = Some []
+spots_held arrays values (None ∷ bases) = without_spot (spots_held arrays values bases)
+spots_held arrays values (Some v ∷ bases) = with_spot (spot_held arrays (values v)) (spots_held arrays values bases)
+
+abbrev pub enters_passed : ℕ → Body → List ℤ → State → List Frame → Option (List (Option ℕ)) → Step Active
+enters_passed g body arguments s waiting None = Over (Outcome.Wrong s.out)
+enters_passed g body arguments s waiting (Some passed) = On (record { function = g; block = 0; passed = passed; base = length s.arrays; state = entered body arguments s; waiting = waiting })
+
+abbrev pub enters_with : ℕ → Option Body → List ℤ → State → List Frame → Option (List (Option ℕ)) → Step Active
+enters_with g None arguments s waiting passed = Over (Outcome.Wrong s.out)
+enters_with g (Some body) arguments s waiting passed = enters_passed g body arguments s waiting passed
+
+abbrev pub spots_for : Option Body → List ℤ → State → Option (List (Option ℕ))
+spots_for None arguments s = None
+spots_for (Some body) arguments s = spots_held (length s.arrays) (at_entry body.parameters arguments) body.bases
+
+-- a function is entered where each array that is passed to it is one that is there
 abbrev pub enters : ℕ → Option Body → List ℤ → State → List Frame → Step Active
-enters g None arguments s waiting = Over (Outcome.Wrong s.out)
-enters g (Some body) arguments s waiting = On (record { function = g; block = 0; passed = []; base = length s.arrays; state = entered body arguments s; waiting = waiting })
+enters g body arguments s waiting = enters_with g body arguments s waiting (spots_for body arguments s)
 
 abbrev pub with_result : (ℕ → Content) → Option ℕ → ℤ → ℕ → Content
 with_result values None n v = values v
@@ -218,11 +254,33 @@ program_path p (suc n) r = AtBlock r.function r.block ∷ (edge_taken r (hop p r
 
 -- graphs
 
+abbrev pub base_before : Option ℕ → List (Option ℕ) → List (Option ℕ)
+base_before None [] = []
+base_before None (base ∷ bases) = None ∷ base ∷ bases
+base_before (Some v) bases = Some v ∷ bases
+
+-- the bases of arrays, up to the last one that has one
+abbrev pub bases_in : List Array → List (Option ℕ)
+bases_in [] = []
+bases_in (array ∷ arrays) = base_before array.base (bases_in arrays)
+
+abbrev pub words_before : (base : Option ℕ) → ℕ → List ℕ → List ℕ
+words_before None n words = n ∷ words
+words_before (Some v) n words = words
+
+-- the words of those that have none
+abbrev pub words_in : List Array → List ℕ
+words_in [] = []
+words_in (array ∷ arrays) = words_before array.base array.words (words_in arrays)
+
+abbrev pub bases_of : ℕ → Graph → List (Option ℕ)
+bases_of globals graph = bases_in (drop globals graph.arrays)
+
 abbrev pub own_of : ℕ → Graph → List ℕ
-own_of globals graph = map (λ a. a.words) (drop globals graph.arrays)
+own_of globals graph = words_in (drop globals graph.arrays)
 
 abbrev pub body_of : ℕ → Graph → Body
-body_of globals graph = record { parameters = graph.parameters; own = own_of globals graph; hop = λ setting b. hop_of setting b (slice_get graph.blocks b) }
+body_of globals graph = record { parameters = graph.parameters; bases = bases_of globals graph; own = own_of globals graph; hop = λ setting b. hop_of setting b (slice_get graph.blocks b) }
 
 abbrev pub program_of : Flow → Program
 program_of flow = record { globals = length flow.globals; texts = flow.texts; body = λ f. option_map (body_of (length flow.globals)) (slice_get flow.functions f) }

@@ -5,7 +5,7 @@ use Rattle.std.specs.Prelude.{ℕ, pos, Bool, true, false, if◌then◌else◌, 
 use Rattle.vx_flow.specs.declared.graph.Operand.{Operand}
 use Rattle.vx_flow.specs.declared.graph.Operand.TheVariants.{Held, Number, Stack}
 use Rattle.vx_flow.specs.declared.graph.Op.{Op}
-use Rattle.vx_flow.specs.declared.graph.Op.TheVariants.{Compute, Select, Place, Load, Store, More, Input, Text, Decimal, Across}
+use Rattle.vx_flow.specs.declared.graph.Op.TheVariants.{Compute, Select, Place, Load, Store, More, Input, Text, Decimal, Across, Base, PlaceIn}
 use Rattle.vx_flow.specs.declared.operands.Reads.{Reads}
 use Rattle.vx_flow.specs.Effects.{is_unary}
 
@@ -22,6 +22,8 @@ written_by (Input v) = Some v
 written_by (Text n) = None
 written_by (Decimal x) = None
 written_by (Across v u) = Some v
+written_by (Base v a x) = Some v
+written_by (PlaceIn v a u i) = Some v
 
 -- the values that an operation reads, at most three
 
@@ -44,6 +46,8 @@ read_by (Input v) = reads_three None None None
 read_by (Text n) = reads_three None None None
 read_by (Decimal x) = reads_three (held_by x) None None
 read_by (Across v u) = reads_three (Some u) None None
+read_by (Base v a x) = reads_three None None None
+read_by (PlaceIn v a u i) = reads_three (held_by i) (Some u) None
 
 -- the same as lists
 
@@ -55,12 +59,13 @@ abbrev pub values_read : Reads → List ℕ
 values_read r = value_list r.first ++ (value_list r.second ++ value_list r.third)
 
 -- the operands that an operation reads, in their order, and 0 for one that it has not. The right operand of a move is not read,
--- but is there; the test of a choice and the value of a copy across are no operands
+-- but is there; the test of a choice, the value of a copy across and the base of a place are no operands, nor is what a base is made from
 
 abbrev pub first_operand : Op → Operand
 first_operand (Compute code v a b) = a
 first_operand (Select v p a b) = a
 first_operand (Place v a i) = i
+first_operand (PlaceIn v a u i) = i
 first_operand (Load v a p dismissible) = p
 first_operand (Store a p x) = p
 first_operand (Decimal x) = x
@@ -78,6 +83,7 @@ abbrev pub with_two : Op → (first second : Operand) → Op
 with_two (Compute code v a b) x y = Compute code v x (if is_unary code then b else y)
 with_two (Select v p a b) x y = Select v p x y
 with_two (Place v a i) x y = Place v a x
+with_two (PlaceIn v a u i) x y = PlaceIn v a u x
 with_two (Load v a p dismissible) x y = Load v a x dismissible
 with_two (Store a p z) x y = Store a x y
 with_two (Decimal z) x y = Decimal x
@@ -104,6 +110,8 @@ with_values to (Input v) = Input (to v)
 with_values to (Text n) = Text n
 with_values to (Decimal x) = Decimal (with_value_in to x)
 with_values to (Across v u) = Across (to v) (to u)
+with_values to (Base v a x) = Base (to v) a x
+with_values to (PlaceIn v a u i) = PlaceIn (to v) a (to u) (with_value_in to i)
 
 -- it reads or writes the streams of the program, so that its order among others can be seen
 

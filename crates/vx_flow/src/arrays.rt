@@ -1,10 +1,11 @@
 // The arrays of a function: which are its own, and which may share a word. specs/Apart.antt and specs/Sound.antt say the same.
 
+ghost use Rattle.std.specs.List.{list_any};
 ghost use Rattle.std.specs.Prelude.{◌≡◌};
 ghost use Rattle.vx_flow.specs.Apart.{are_apart, array_in, may_meet};
-ghost use Rattle.vx_flow.specs.Sound.{has_base, is_local, is_own_array};
+ghost use Rattle.vx_flow.specs.Sound.{base_at, has_base, is_handed, is_local, is_own_array};
 
-use crate::graph::{Array, ArrayId};
+use crate::graph::{Array, ArrayId, Value};
 
 /// Whether an array is one that was handed to the function.
 pub fn has_base(array: &Array) -> bool
@@ -14,6 +15,18 @@ pub fn has_base(array: &Array) -> bool
         Some(_) => true,
         None => false,
     }
+}
+
+/// Whether one of the arrays is one that was handed to the function.
+pub fn have_base(arrays: &[Array]) -> bool
+    ensures { result ≡ list_any has_base arrays.now }
+{
+    for array in arrays {
+        if has_base(array) {
+            return true;
+        }
+    }
+    false
 }
 
 /// Whether an array is the function's own: no global, and none that was handed over.
@@ -29,6 +42,26 @@ pub fn is_local(arrays: &[Array], array: ArrayId) -> bool
 {
     match arrays.get(array as usize) {
         Some(array) => is_own_array(array),
+        None => false,
+    }
+}
+
+/// The value that holds where an array stands, where it is there and was handed to the function.
+pub fn base_at(arrays: &[Array], array: ArrayId) -> Option<Value>
+    ensures { result ≡ base_at arrays.now array }
+{
+    match arrays.get(array as usize) {
+        Some(array) => array.base,
+        None => None,
+    }
+}
+
+/// Whether an array is there and was handed to the function.
+pub fn is_handed(arrays: &[Array], array: ArrayId) -> bool
+    ensures { result ≡ is_handed arrays.now array }
+{
+    match base_at(arrays, array) {
+        Some(_) => true,
         None => false,
     }
 }

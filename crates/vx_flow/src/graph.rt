@@ -24,7 +24,7 @@ pub enum Operand {
     Held(Value),
     /// A number.
     Number(i32),
-    /// The stack pointer. No graph that is sound has it.
+    /// The stack pointer. In a graph that is sound only the base of one of its own arrays is made from it.
     Stack,
 }
 
@@ -58,6 +58,20 @@ pub enum Op {
     Place {
         to: Value,
         array: ArrayId,
+        index: Operand,
+    },
+    /// Where an array of the function stands, to hand it to a function that is called. In words it is made from `from`: the stack
+    /// pointer for one of the function's own, 0 for a global.
+    Base {
+        to: Value,
+        array: ArrayId,
+        from: Operand,
+    },
+    /// The place in bytes of an element of an array that was handed to the function, whose base this is: four times its index.
+    PlaceIn {
+        to: Value,
+        array: ArrayId,
+        base: Value,
         index: Operand,
     },
     /// The word at a place of an array. One that is dismissible may stand where the place is outside of the array.
@@ -132,11 +146,12 @@ pub struct Block {
 pub struct Array {
     /// Its words.
     pub words: u32,
-    /// Whether it is a global of the program. The others are the function's own.
+    /// Whether it is a global of the program. The others are the function's own, or are handed to it.
     pub global: bool,
     /// The number by which it is told apart from the other arrays of the function.
     pub named: u32,
-    /// The value that holds where it stands, if it is one that is handed to the function. No flow that is sound has one yet.
+    /// The value that holds where it stands, if it is one that is handed to the function: a parameter. It has no words of its own
+    /// then.
     pub base: Option<Value>,
 }
 
@@ -149,7 +164,7 @@ pub struct Graph {
     pub banks: Listed<Bank>,
     /// The values that hold the arguments at the entry.
     pub parameters: Listed<Value>,
-    /// The arrays: the globals, then the function's own.
+    /// The arrays: the globals, then the function's own and those that are handed to it.
     pub arrays: Listed<Array>,
 }
 

@@ -66,9 +66,12 @@ pub fn read_by(op: &Op) -> Reads
         Op::Place { index: one, .. } | Op::Load { place: one, .. } | Op::Decimal { from: one } => {
             reads_three(held_by(one), None, None)
         }
+        Op::PlaceIn { base, index, .. } => reads_three(held_by(index), Some(*base), None),
         Op::Store { place, from, .. } => reads_three(held_by(place), held_by(from), None),
         Op::Across { from, .. } => reads_three(Some(*from), None, None),
-        Op::More { .. } | Op::Input { .. } | Op::Text { .. } => reads_three(None, None, None),
+        Op::Base { .. } | Op::More { .. } | Op::Input { .. } | Op::Text { .. } => {
+            reads_three(None, None, None)
+        }
     }
 }
 
@@ -89,6 +92,8 @@ pub fn written_by(op: &Op) -> Option<Value>
         Op::Compute { to, .. }
         | Op::Select { to, .. }
         | Op::Place { to, .. }
+        | Op::Base { to, .. }
+        | Op::PlaceIn { to, .. }
         | Op::Load { to, .. }
         | Op::More { to }
         | Op::Input { to }
@@ -133,7 +138,7 @@ pub fn first_operand(op: &Op) -> Operand
 {
     match op {
         Op::Compute { left, .. } | Op::Select { left, .. } => *left,
-        Op::Place { index, .. } => *index,
+        Op::Place { index, .. } | Op::PlaceIn { index, .. } => *index,
         Op::Load { place, .. } | Op::Store { place, .. } => *place,
         Op::Decimal { from } => *from,
         _ => Operand::Number(0),
@@ -176,6 +181,17 @@ pub fn with_two(op: &Op, first: Operand, second: Operand) -> Op
         Op::Place { to, array, .. } => Op::Place {
             to,
             array,
+            index: first,
+        },
+        Op::PlaceIn {
+            to,
+            array,
+            base,
+            ..
+        } => Op::PlaceIn {
+            to,
+            array,
+            base,
             index: first,
         },
         Op::Load {
