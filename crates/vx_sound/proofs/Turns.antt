@@ -45,6 +45,18 @@ module _ (v : ℕ) (us : List ℕ) (i d : ℕ) where
   pub others_not : i < length us → get_or us i d ≡ v → false ≡ list_all (λ u. not (u == v)) us
   others_not lt e = all_not (λ u. not (u == v)) us i d (not (get_or us i d == v)) lt refl (ap not (eq-eqb (get_or us i d) v e))
 
+-- some item is v
+module _ (v : ℕ) (us : List ℕ) (i d : ℕ) where
+  pub among_more : i < length us → list_any (λ u. u == v) (take i us) ≡ false → (get_or us i d ≡ v → ⊥) → list_any (λ u. u == v) (take (i + 1) us) ≡ false
+  among_more lt e f = any_more (λ u. u == v) us i d (get_or us i d == v) lt e refl (unset (get_or us i d == v) (differs_of (get_or us i d) v f))
+    where
+      unset : (b : Bool) → not b ≡ true → b ≡ false
+      unset true h = sym h
+      unset false h = refl
+
+  pub among_here : i < length us → get_or us i d ≡ v → true ≡ list_any (λ u. u == v) us
+  among_here lt e = any_here (λ u. u == v) us i d (get_or us i d == v) lt refl (eq-eqb (get_or us i d) v e)
+
 -- no item stands twice
 module _ (us : List ℕ) (i : ℕ) where
   distinct_next : (d : ℕ) (b : Bool) → i < length us → are_distinct us ≡ are_distinct (drop i us) → b ≡ list_all (λ u. not (u == get_or us i d)) (take (length us - (i + 1)) (drop (i + 1) us)) → are_distinct us ≡ (b && are_distinct (drop (i + 1) us))

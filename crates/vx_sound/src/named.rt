@@ -1,5 +1,5 @@
 // The tests of an operation by itself: whether what it names is there and of its kind, and whether it leaves a value to the places
-// of one array. The other files name only places, loads, stores and texts. The exits are tested for what they name. Nothing here
+// of one array. The other files name only places, bases, loads, stores and texts. The exits are tested for what they name. Nothing here
 // takes memory.
 
 ghost use Rattle.std.specs.Prelude.{◌≡◌, ◌==◌};
@@ -65,6 +65,18 @@ pub fn is_sound_operation(banks: &[Bank], arrays: usize, op: &Op) -> bool
         Op::Text { .. } => true,
         Op::Decimal { from } => is_operand(banks, from),
         Op::Across { .. } => false,
+        Op::Base { to, array, .. } => is_general(banks, *to) && (*array as usize) < arrays,
+        Op::PlaceIn {
+            to,
+            array,
+            base,
+            index,
+        } => {
+            is_general(banks, *to)
+                && (*array as usize) < arrays
+                && is_general(banks, *base)
+                && is_operand(banks, index)
+        }
     }
 }
 
@@ -107,6 +119,13 @@ pub fn keeps_place(value: Value, array: u32, op: &Op) -> bool
         Op::Text { .. } => true,
         Op::Decimal { from } => !is_value(value, from),
         Op::Across { to, from } => *to != value && *from != value,
+        Op::Base { to, .. } => *to != value,
+        Op::PlaceIn {
+            to,
+            array: other,
+            base,
+            index,
+        } => { (*to != value || *other == array) && !is_value(value, index) && *base != value }
     }
 }
 
@@ -166,7 +185,7 @@ fn is_right(banks: &[Bank], code: Code, operand: &Operand) -> bool
     }
 }
 
-fn is_zero(operand: &Operand) -> bool
+pub(crate) fn is_zero(operand: &Operand) -> bool
     ensures { result ≡ is_zero operand.now }
 {
     match operand {
@@ -186,7 +205,7 @@ fn is_written(banks: &[Bank], code: Code, value: Value) -> bool
 }
 
 /// What stands as the right operand of a move is not read.
-fn is_right_value(value: Value, code: Code, operand: &Operand) -> bool
+pub(crate) fn is_right_value(value: Value, code: Code, operand: &Operand) -> bool
     ensures { result ≡ is_right_value value code operand.now }
 {
     match code {
@@ -230,6 +249,11 @@ pub fn is_place_in(value: Value, array: u32, op: &Op) -> bool
 {
     match op {
         Op::Place {
+            to,
+            array: other,
+            ..
+        } => *to == value && *other == array,
+        Op::PlaceIn {
             to,
             array: other,
             ..

@@ -2,9 +2,10 @@
 
 ghost use Rattle.std.specs.Prelude.{◌≡◌, ◌==◌, not, slice_get};
 ghost use Rattle.std.specs.List.{list_all};
-ghost use Rattle.vx_flow.specs.Sound.{are_distinct, begins_with, has_parameters, is_block_there, is_call_there, is_global, is_own_array, is_text_there};
+ghost use Rattle.vx_flow.specs.Sound.{are_distinct, begins_with, has_parameters, is_block_there, is_call_there, is_global, is_no_global, is_text_there};
 
-use vx_flow::arrays::{has_base, is_own_array};
+use crate::arguments::takes;
+use vx_flow::arrays::has_base;
 use vx_flow::graph::{Array, Block, Exit, Flow, Global, Graph, Op, Value};
 
 /// Whether the function is there and has so many parameters.
@@ -17,25 +18,25 @@ pub fn has_parameters(count: usize, functions: &[Graph], function: u32) -> bool
     }
 }
 
-/// Whether the texts that blocks print and the functions that they call are there, with a parameter for each argument.
-pub fn are_blocks_there(flow: &Flow, blocks: &[Block]) -> bool
-    ensures { result ≡ list_all (is_block_there flow.now) blocks.now }
+/// Whether the texts that blocks of a graph print and the functions that they call are there, and take the arguments.
+pub fn are_blocks_there(flow: &Flow, graph: &Graph, blocks: &[Block]) -> bool
+    ensures { result ≡ list_all (is_block_there flow.now graph.now) blocks.now }
 {
     for block in blocks {
-        if !is_block_there(flow, block) {
+        if !is_block_there(flow, graph, block) {
             return false;
         }
     }
     true
 }
 
-fn is_block_there(flow: &Flow, block: &Block) -> bool
-    ensures { result ≡ is_block_there flow.now block.now }
+fn is_block_there(flow: &Flow, graph: &Graph, block: &Block) -> bool
+    ensures { result ≡ is_block_there flow.now graph.now block.now }
 {
-    are_texts_there(flow, block.ops.as_slice()) && is_call_there(flow, &block.exit)
+    are_texts_there(flow, block.ops.as_slice()) && is_call_there(flow, graph, &block.exit)
 }
 
-fn are_texts_there(flow: &Flow, ops: &[Op]) -> bool
+pub(crate) fn are_texts_there(flow: &Flow, ops: &[Op]) -> bool
     ensures { result ≡ list_all (is_text_there flow.now) ops.now }
 {
     for op in ops {
@@ -55,16 +56,21 @@ fn is_text_there(flow: &Flow, op: &Op) -> bool
     }
 }
 
-/// The function that is called is there, with one parameter for each argument.
-fn is_call_there(flow: &Flow, exit: &Exit) -> bool
-    ensures { result ≡ is_call_there flow.now exit.now }
+/// The function that is called is there, and takes the arguments.
+fn is_call_there(flow: &Flow, graph: &Graph, exit: &Exit) -> bool
+    ensures { result ≡ is_call_there flow.now graph.now exit.now }
 {
     match exit {
         Exit::Call {
             function,
             arguments,
             ..
-        } => has_parameters(arguments.len(), flow.functions.as_slice(), *function),
+        } => takes(
+            graph,
+            arguments.as_slice(),
+            flow.functions.as_slice(),
+            *function,
+        ),
         _ => true,
     }
 }
@@ -93,7 +99,7 @@ pub(crate) fn are_others(value: Value, values: &[Value]) -> bool
     true
 }
 
-/// The globals in their order, with their words, and then local arrays.
+/// The globals in their order, with their words, and then no other global.
 pub fn begins_with(globals: &[Global], arrays: &[Array]) -> bool
     ensures { result ≡ begins_with globals.now arrays.now }
 {
@@ -109,7 +115,7 @@ pub fn begins_with(globals: &[Global], arrays: &[Array]) -> bool
             [] => return false,
         }
     }
-    are_own(left)
+    are_no_globals(left)
 }
 
 fn is_global(array: &Array, words: u32) -> bool
@@ -118,13 +124,19 @@ fn is_global(array: &Array, words: u32) -> bool
     array.global && array.words == words && !has_base(array)
 }
 
-fn are_own(arrays: &[Array]) -> bool
-    ensures { result ≡ list_all is_own_array arrays.now }
+fn are_no_globals(arrays: &[Array]) -> bool
+    ensures { result ≡ list_all is_no_global arrays.now }
 {
     for array in arrays {
-        if !is_own_array(array) {
+        if !is_no_global(array) {
             return false;
         }
     }
     true
+}
+
+fn is_no_global(array: &Array) -> bool
+    ensures { result ≡ is_no_global array.now }
+{
+    !array.global
 }
