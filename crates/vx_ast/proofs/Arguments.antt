@@ -1,7 +1,8 @@
--- Arguments that are numbers: no array is given with them, and every row of an expression has no others.
-use Rattle.std.proofs.Common.{◌≡◌, ◌∙◌, ℕ, ℤ, pos, List, [], ◌∷◌, ◌++◌, length, map, replicate, slice_index_or, Option, Some, refl, ap}
-use Rattle.vx_ast.specs.Tree.{Row, Tree, NoMore, Then, Function}
+-- Arguments that are numbers: no array is given with them, and a row of numbers gives no others.
+use Rattle.std.proofs.Common.{◌≡◌, ◌∙◌, ℕ, ℤ, pos, true, List, [], ◌∷◌, ◌++◌, length, map, replicate, slice_index_or, Option, Some, refl, ap}
+use Rattle.vx_ast.specs.Tree.{Row, Tree, NoMore, Then, Hand, Function}
 use Rattle.vx_ast.specs.Meaning.{Store, Part, With, Trapped, Going, Argument, NumberArgument, numbers_given, arrays_given, Calls, and_then, value, does, spot_in, spot_of, result_of, entered, activate}
+use Rattle.vx_ast.specs.Accepted.{has_numbers}
 
 pub numbers_are : (zs : List ℤ) → numbers_given (map NumberArgument zs) ≡ zs
 numbers_are [] = refl
@@ -11,7 +12,7 @@ pub no_arrays : (zs : List ℤ) → arrays_given (map NumberArgument zs) ≡ []
 no_arrays [] = refl
 no_arrays (z ∷ zs) = no_arrays zs
 
--- so a row of an expression gives them, and what a function does to which they are given is what it does by its numbers
+-- so a row of numbers gives them, and what a function does to which they are given is what it does by its numbers
 
 abbrev pub OnlyNumbers : Part (List Argument) → Type 0
 OnlyNumbers (With xs s) = xs ≡ map NumberArgument (numbers_given xs)
@@ -28,9 +29,10 @@ more_numbers x (With xs s) h = ap (λ l. NumberArgument x ∷ l) h
 more_numbers x (Trapped k out) h = tt
 more_numbers x (Going out) h = tt
 
-pub row_numbers : (spot : ℕ → ℕ) (calls : Calls) (row : Tree Row) (s : Store) → OnlyNumbers (value spot calls row s)
-row_numbers spot calls NoMore s = refl
-row_numbers spot calls (Then a rest) s = then_numbers (value spot calls a s) _ (λ x t. more_numbers x (value spot calls rest t) (row_numbers spot calls rest t))
+pub row_numbers : (spot : ℕ → ℕ) (calls : Calls) (row : Tree Row) (s : Store) → has_numbers row ≡ true → OnlyNumbers (value spot calls row s)
+row_numbers spot calls NoMore s h = refl
+row_numbers spot calls (Then a rest) s h = then_numbers (value spot calls a s) _ (λ x t. more_numbers x (value spot calls rest t) (row_numbers spot calls rest t h))
+row_numbers spot calls (Hand a rest) s h = cc
 
 pub given_numbers : (g : ℕ) (f : Function) (calls : Calls) (n : ℕ) (zs : List ℤ) (s : Store) →
     activate g (Some f) calls n (map NumberArgument zs) s ≡ result_of s (does (spot_of g (length s.arrays)) calls n f.body (record s { scalars = λ x. slice_index_or zs x (pos 0); arrays = s.arrays ++ map (λ size. replicate size (pos 0)) f.arrays }))

@@ -2,6 +2,7 @@ pub mod Programs
 pub mod MeaningRows
 pub mod LoopRows
 pub mod CallRows
+mod ArrayRows
 mod AcceptedRows
 pub mod PieceLaws
 pub mod TokenLaws

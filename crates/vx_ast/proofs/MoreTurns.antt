@@ -8,8 +8,8 @@ use Rattle.vx_base.specs.Arithmetic.{sum_of, difference_of}
 use Rattle.vx_base.specs.declared.outcome.Trap.TheVariants.{Divide as ByDivide, Depth as ByDepth}
 use Rattle.vx_base.proofs.Same.{begins_self, begins_on}
 use Rattle.vx_ast.specs.declared.tree.BinaryOperator.{BinaryOperator}
-use Rattle.vx_ast.specs.Tree.{Shape, One, Tree, Literal, Local, Global, Element, Unary, Binary, Both, Either, Choice, Apply, ReadInt, MoreInput, NoMore, Then, Place, InLocal, InGlobal, InElement, Action, Evaluate, Assign, Compound, Increase, Decrease, Code, Nothing, Seq, Empty, Block, Clear, Declare, ClearArray, Simply, Head, Print, If, IfElse, While, DoWhile, For, Break, Continue, Return, ReturnValue, Function, Program}
-use Rattle.vx_ast.specs.Meaning.{Store, Part, With, Trapped, Going, Leaves, Falls, Breaks, Continues, Returns, Calls, Argument, NumberArgument, numbers_given, arrays_given, and_then, unless_zero, array_at, word_at, with_word, cleared, with_scalar, at_index, at_element, index_in, unary_value, binary_value, divides, combined, next_input, value, changes, acts, pieces_of, printed, prints, go_on, after_body, after_turn, tests, turns, turns_first, test_of, does, spot_in, back_in, result_of, entered, activate, active, deepest, at_start, outcome_of, source}
+use Rattle.vx_ast.specs.Tree.{Shape, One, Tree, Literal, Local, Global, Element, Unary, Binary, Both, Either, Choice, Apply, ReadInt, MoreInput, NoMore, Then, Hand, Place, InLocal, InGlobal, InElement, Action, Evaluate, Assign, Compound, Increase, Decrease, Code, Nothing, Seq, Empty, Block, Clear, Declare, ClearArray, Simply, Head, Print, If, IfElse, While, DoWhile, For, Break, Continue, Return, ReturnValue, Function, Program}
+use Rattle.vx_ast.specs.Meaning.{Store, Part, With, Trapped, Going, Leaves, Falls, Breaks, Continues, Returns, Calls, Argument, NumberArgument, ArrayArgument, numbers_given, arrays_given, and_then, unless_zero, array_at, word_at, with_word, cleared, with_scalar, at_index, at_element, index_in, unary_value, binary_value, divides, combined, next_input, value, changes, acts, pieces_of, printed, prints, go_on, after_body, after_turn, tests, turns, turns_first, test_of, does, spot_in, back_in, result_of, entered, activate, active, deepest, at_start, outcome_of, source}
 
 -- the output at the end of a part
 abbrev pub out_of : {A : Type 0} → Part A → List ℕ
@@ -129,6 +129,8 @@ module _ (spot : ℕ → ℕ) (calls more : Calls) (lead : CallsLead calls more)
   leads_value (Then a rest) s =
       leads_then s.out (value spot calls a s) (value spot more a s) _ _ (leads_value a s)
       (λ x t. leads_then t.out (value spot calls rest t) (value spot more rest t) (λ xs u. With (NumberArgument x ∷ xs) u) (λ xs u. With (NumberArgument x ∷ xs) u) (leads_value rest t) (λ xs u. leads_same (With (NumberArgument x ∷ xs) u)))
+  leads_value (Hand a rest) s =
+      leads_then s.out (value spot calls rest s) (value spot more rest s) (λ xs u. With (ArrayArgument (spot a) ∷ xs) u) (λ xs u. With (ArrayArgument (spot a) ∷ xs) u) (leads_value rest s) (λ xs u. leads_same (With (ArrayArgument (spot a) ∷ xs) u))
 
   -- simple statements
 

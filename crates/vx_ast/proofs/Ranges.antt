@@ -1,5 +1,5 @@
 -- The numbers of an accepted program stay numbers of 32 bits, from a store in range to every part's end.
-use Rattle.std.proofs.Common.{◌≡◌, ◌<◌, ◌≤◌, ◌-◌, nat_eq, ◌^◌, ◌⊎◌, ℕ, zero, suc, ℤ, pos, negsuc, Bool, true, false, ◌&&◌, nat_lt, List, [], ◌∷◌, length, map, replicate, slice_index_or, slice_get, Option, Some, None, refl, sym, subst, arith, lit<, inl, inr, ltb-true}
+use Rattle.std.proofs.Common.{◌≡◌, ◌<◌, ◌≤◌, ◌+◌, ◌-◌, nat_eq, ◌^◌, ◌⊎◌, ℕ, zero, suc, ℤ, pos, negsuc, Bool, true, false, ◌&&◌, nat_lt, List, [], ◌∷◌, length, map, replicate, slice_index_or, slice_get, Option, Some, None, refl, sym, subst, arith, lit<, inl, inr, ltb-true}
 use Rattle.std.specs.Prelude.{if◌then◌else◌, slice_set}
 use Rattle.std.specs.List.{All, list_all}
 use Rattle.std.proofs.lemmas.Bool.{cases_lt}
@@ -16,13 +16,13 @@ use Rattle.vx_ast.specs.declared.tree.UnaryOperator.{UnaryOperator}
 use Rattle.vx_ast.specs.declared.tree.UnaryOperator.TheVariants.{Minus, Plus, Not, Complement}
 use Rattle.vx_ast.specs.declared.tree.BinaryOperator.{BinaryOperator}
 use Rattle.vx_ast.specs.declared.tree.BinaryOperator.TheVariants.{Multiply, Divide, Remainder, Add as Plus_of, Subtract, ShiftLeft, ShiftRight, Less, LessEqual, Greater, GreaterEqual, Equal, NotEqual, BitAnd, BitXor, BitOr}
-use Rattle.vx_ast.specs.Tree.{Shape, One, Row, Tree, Literal, Local, Global, Element, Unary, Binary, Both, Either, Choice, Apply, ReadInt, MoreInput, NoMore, Then, Place, InLocal, InGlobal, InElement, Action, Evaluate, Assign, Compound, Increase, Decrease, Code, Nothing, Seq, Empty, Block, Clear, Declare, ClearArray, Simply, Head, Print, If, IfElse, While, DoWhile, For, Break, Continue, Return, ReturnValue, Function, Program}
-use Rattle.vx_ast.specs.Meaning.{Store, Part, With, Trapped, Going, Leaves, Falls, Breaks, Continues, Returns, Calls, Argument, numbers_given, arrays_given, and_then, unless_zero, array_at, word_at, with_word, cleared, with_scalar, at_index, index_in, unary_value, binary_value, divides, combined, next_input, is_left, value, changes, acts, pieces_of, printed, prints, go_on, after_body, after_turn, tests, turns, turns_first, test_of, does, spot_in, back_in, result_of, entered, activate, active, deepest, words_at_start, at_start, outcome_of}
+use Rattle.vx_ast.specs.Tree.{Shape, One, Row, Tree, Literal, Local, Global, Element, Unary, Binary, Both, Either, Choice, Apply, ReadInt, MoreInput, NoMore, Then, Hand, Place, InLocal, InGlobal, InElement, Action, Evaluate, Assign, Compound, Increase, Decrease, Code, Nothing, Seq, Empty, Block, Clear, Declare, ClearArray, Simply, Head, Print, If, IfElse, While, DoWhile, For, Break, Continue, Return, ReturnValue, Function, Program}
+use Rattle.vx_ast.specs.Meaning.{Store, Part, With, Trapped, Going, Leaves, Falls, Breaks, Continues, Returns, Calls, Argument, ArrayArgument, numbers_given, arrays_given, and_then, unless_zero, array_at, word_at, with_word, cleared, with_scalar, at_index, index_in, unary_value, binary_value, divides, combined, next_input, is_left, value, changes, acts, pieces_of, printed, prints, go_on, after_body, after_turn, tests, turns, turns_first, test_of, does, spot_in, back_in, result_of, entered, activate, active, deepest, words_at_start, at_start, outcome_of}
 use Rattle.vx_ast.specs.declared.tree.Gives.{Gives}
 use Rattle.vx_ast.specs.declared.tree.Gives.TheVariants.{Int as GivesInt, Nothing as GivesNothing}
 use Rattle.vx_ast.specs.declared.tree.GlobalVariable.{GlobalVariable}
 use Rattle.vx_ast.specs.declared.tree.GlobalVariable.TheVariants.{Scalar as ScalarGlobal, Array as ArrayGlobal}
-use Rattle.vx_ast.specs.Accepted.{in_force_at_start, at_most, are_all_from, scalars_of, arrays_of, is_format, numbers_of, suits_global, is_suited, is_none, limit_of, is_main, is_accepted, Scope, is_word, row_length, can_call, gives_int, names_array, suits, suits_place, suits_whole, suits_action, suits_test, suits_code, scope_after, suits_function}
+use Rattle.vx_ast.specs.Accepted.{in_force_at_start, at_most, are_all_from, scalars_of, arrays_of, is_format, numbers_of, suits_global, is_suited, is_none, limit_of, is_main, is_accepted, Scope, is_word, row_length, has_numbers, takes_of_row, numbers_taken, arrays_taken, can_call, gives_int, names_array, suits, suits_place, suits_whole, suits_action, suits_test, suits_code, scope_after, suits_function}
 use Rattle.vx_ast.specs.Range.{InRange, PartInRange, ValueInRange, LeavesInRange, ResultInRange, SourceStaysInRange}
 
 both_hold : (a b : Bool) → (a && b) ≡ true → (a ≡ true) × (b ≡ true)
@@ -182,7 +182,7 @@ module _ (p : Program) (spot : ℕ → ℕ) (calls : Calls) (kept : CallsInRange
       let i = both_hold (suits p sc a) (suits p sc b) g.1 in
       then_fits IsNumber IsNumber (value spot calls c s) _ (value_fits sc c s g.0 r) (λ x t f q. unless_fits IsNumber x (value spot calls a t) (value spot calls b t) (value_fits sc a t i.0 q) (value_fits sc b t i.1 q))
   value_fits sc (Apply f row) s h r =
-      then_fits (ValueInRange Row) IsNumber (value spot calls row s) _ (value_fits sc row s (both_hold (can_call gives_int (row_length row) (slice_get p.functions f)) (suits p sc row) h).1 r) (λ xs t g q. kept f xs t g q)
+      then_fits (ValueInRange Row) IsNumber (value spot calls row s) _ (value_fits sc row s (both_hold (can_call gives_int (takes_of_row row) (slice_get p.functions f)) (suits p sc row) h).1 r) (λ xs t g q. kept f xs t g q)
   value_fits sc ReadInt s h r = input_fits s.input s r.input r
   value_fits sc MoreInput s h r = (truth_fits (is_left s.input), r)
   value_fits sc NoMore s h r = (All-nil IsNumber, r)
@@ -190,6 +190,8 @@ module _ (p : Program) (spot : ℕ → ℕ) (calls : Calls) (kept : CallsInRange
       let g = both_hold (suits p sc a) (suits p sc rest) h in
       then_fits IsNumber (ValueInRange Row) (value spot calls a s) _ (value_fits sc a s g.0 r)
       (λ x t f q. then_fits (ValueInRange Row) (ValueInRange Row) (value spot calls rest t) _ (value_fits sc rest t g.1 q) (λ xs u i v. (All-cons IsNumber x (numbers_given xs) f i, v)))
+  value_fits sc (Hand a rest) s h r =
+      then_fits (ValueInRange Row) (ValueInRange Row) (value spot calls rest s) (λ xs u. With (ArrayArgument (spot a) ∷ xs) u) (value_fits sc rest s (both_hold (names_array p sc a) (suits p sc rest) h).1 r) (λ xs u i v. (i, v))
 
   -- simple statements
 
@@ -203,7 +205,7 @@ module _ (p : Program) (spot : ℕ → ℕ) (calls : Calls) (kept : CallsInRange
 
   whole_fits : (sc : Scope) (e : Tree One) (s : Store) → suits_whole p sc e ≡ true → InRange s → PartInRange IsNumber (value spot calls e s)
   whole_fits sc (Apply f row) s h r =
-      then_fits (ValueInRange Row) IsNumber (value spot calls row s) _ (value_fits sc row s (both_hold (can_call (λ gives. true) (row_length row) (slice_get p.functions f)) (suits p sc row) h).1 r) (λ xs t g q. kept f xs t g q)
+      then_fits (ValueInRange Row) IsNumber (value spot calls row s) _ (value_fits sc row s (both_hold (can_call (λ gives. true) (takes_of_row row) (slice_get p.functions f)) (suits p sc row) h).1 r) (λ xs t g q. kept f xs t g q)
   whole_fits sc e s h r = value_fits sc e s h r
 
   pub acts_fits : (sc : Scope) (a : Action) (s : Store) → suits_action p sc a ≡ true → InRange s → PartInRange LeavesInRange (acts spot calls a s)
@@ -284,7 +286,7 @@ module _ (p : Program) (spot : ℕ → ℕ) (calls : Calls) (kept : CallsInRange
   does_fits loops sc (Simply a) s h r = acts_fits p spot calls kept sc a s h r
   does_fits loops sc (Head a) s h r = acts_fits p spot calls kept sc a s h r
   does_fits loops sc (Print format row) s h r =
-      then_fits (ValueInRange Row) LeavesInRange (value spot calls row s) _ (value_fits p spot calls kept sc row s (both_hold (is_format format && nat_eq (numbers_of format) (row_length row)) (suits p sc row) h).1 r)
+      then_fits (ValueInRange Row) LeavesInRange (value spot calls row s) _ (value_fits p spot calls kept sc row s (both_hold (is_format format && (nat_eq (numbers_of format) (row_length row) && has_numbers row)) (suits p sc row) h).1 r)
       (λ xs t f q. (tt, prints_fits (printed (pieces_of format) (numbers_given xs)) t q))
   does_fits loops sc (If e a) s h r =
       let g = both_hold (suits p sc e) (suits_code p gives loops sc a) h in
@@ -334,17 +336,17 @@ suited_at p [] i h = tt
 suited_at p (f ∷ fs) zero h = (both_hold (suits_function p f) (list_all (suits_function p) fs) h).0
 suited_at p (f ∷ fs) (suc i) h = suited_at p fs i (both_hold (suits_function p f) (list_all (suits_function p) fs) h).1
 
-body_suits : (p : Program) (f : Function) → suits_function p f ≡ true → suits_code p f.gives false (in_force_at_start f) f.body ≡ true
+body_suits : (p : Program) (f : Function) → suits_function p f ≡ true → suits_code p f.gives false (in_force_at_start p f) f.body ≡ true
 body_suits p f h =
-    (both_hold (suits_code p f.gives false (in_force_at_start f) f.body) (at_most f.parameters f.scalars)
-    (both_hold (suits_code p f.gives false (in_force_at_start f) f.body && at_most f.parameters f.scalars)
-    (are_all_from f.parameters (f.scalars - f.parameters) (scalars_of f.body) && (are_all_from (length p.globals) (length f.arrays) (arrays_of f.body) && list_all (nat_lt 0) f.arrays)) h).0).0
+    (both_hold (suits_code p f.gives false (in_force_at_start p f) f.body) (at_most f.parameters f.scalars && nat_eq f.parameters (numbers_taken f))
+    (both_hold (suits_code p f.gives false (in_force_at_start p f) f.body && (at_most f.parameters f.scalars && nat_eq f.parameters (numbers_taken f)))
+    (are_all_from f.parameters (f.scalars - f.parameters) (scalars_of f.body) && (are_all_from (length p.globals + arrays_taken f) (length f.arrays) (arrays_of f.body) && list_all (nat_lt 0) f.arrays)) h).0).0
 
 activate_fits : (p : Program) (o : Option Function) (calls : Calls) → Suited p o → CallsInRange calls → (n : ℕ) (args : List Argument) (s : Store) → All IsNumber (numbers_given args) → InRange s → PartInRange IsNumber (activate (length p.globals) o calls n args s)
 activate_fits p None calls h kept n args s i r = tt
 activate_fits p (Some f) calls h kept n args s i r =
     result_fits s (does (spot_in (length p.globals) (arrays_given args) (length s.arrays)) calls n f.body (entered f args s)) r
-    (does_fits p (spot_in (length p.globals) (arrays_given args) (length s.arrays)) calls kept f.gives n false (in_force_at_start f) f.body (entered f args s) (body_suits p f h) (entered_fits f args s i r))
+    (does_fits p (spot_in (length p.globals) (arrays_given args) (length s.arrays)) calls kept f.gives n false (in_force_at_start p f) f.body (entered f args s) (body_suits p f h) (entered_fits f args s i r))
 
 -- each call gives a number of 32 bits and leaves such numbers, where it is given such numbers
 pub active_fits : (p : Program) (depth n : ℕ) → list_all (suits_function p) p.functions ≡ true → CallsInRange (active p depth n)

@@ -4,9 +4,11 @@ use Rattle.std.specs.Prelude.{ℕ, zero, suc, ◌+◌, ◌-◌, ◌^◌, ℤ, po
 use Rattle.std.specs.List.{list_all, list_any, flat_map, sum}
 use Rattle.vx_ast.specs.declared.tree.Gives.{Gives}
 use Rattle.vx_ast.specs.declared.tree.Gives.TheVariants.{Int as GivesInt, Nothing as GivesNothing}
+use Rattle.vx_ast.specs.declared.tree.Takes.{Takes}
+use Rattle.vx_ast.specs.declared.tree.Takes.TheVariants.{Number as TakesNumber, Array as TakesArray}
 use Rattle.vx_ast.specs.declared.tree.GlobalVariable.{GlobalVariable}
 use Rattle.vx_ast.specs.declared.tree.GlobalVariable.TheVariants.{Scalar as ScalarGlobal, Array as ArrayGlobal}
-use Rattle.vx_ast.specs.Tree.{Shape, One, Tree, Literal, Local, Global, Element, Unary, Binary, Both, Either, Choice, Apply, ReadInt, MoreInput, NoMore, Then, Place, InLocal, InGlobal, InElement, Action, Evaluate, Assign, Compound, Increase, Decrease, Code, Nothing, Seq, Empty, Block, Clear, Declare, ClearArray, Simply, Head, Print, If, IfElse, While, DoWhile, For, Break, Continue, Return, ReturnValue, Function, Program}
+use Rattle.vx_ast.specs.Tree.{Shape, One, Tree, Literal, Local, Global, Element, Unary, Binary, Both, Either, Choice, Apply, ReadInt, MoreInput, NoMore, Then, Hand, Place, InLocal, InGlobal, InElement, Action, Evaluate, Assign, Compound, Increase, Decrease, Code, Nothing, Seq, Empty, Block, Clear, Declare, ClearArray, Simply, Head, Print, If, IfElse, While, DoWhile, For, Break, Continue, Return, ReturnValue, Function, Program}
 use Rattle.vx_ast.specs.Meaning.{Piece, AByte, ANumber, pieces_of}
 
 -- small tests
@@ -41,13 +43,13 @@ is_array (Some (ScalarGlobal z)) = false
 is_array (Some (ArrayGlobal n)) = true
 is_array None = false
 
--- the scalars of the function and its own arrays that are in force at a place
+-- the scalars of the function, and its array parameters and own arrays, that are in force at a place
 
 pub record Scope : Type 0 where
   pub scalars : List ℕ
   pub arrays : List ℕ
 
--- a global array, or one of the function's own that is in force
+-- a global array, or another one that is in force
 abbrev pub names_array : Program → Scope → ℕ → Bool
 names_array p sc a = if nat_lt a (length p.globals) then is_array (slice_get p.globals a) else is_in a sc.arrays
 
@@ -55,12 +57,57 @@ names_array p sc a = if nat_lt a (length p.globals) then is_array (slice_get p.g
 abbrev pub row_length : {k : Shape} → Tree k → ℕ
 row_length NoMore = 0
 row_length (Then a rest) = suc (row_length rest)
+row_length (Hand a rest) = suc (row_length rest)
 row_length t = 0
 
--- a function that is called with so many arguments, and may be used so
-abbrev pub can_call : (Gives → Bool) → ℕ → Option Function → Bool
-can_call wanted n None = false
-can_call wanted n (Some f) = wanted f.gives && nat_eq n f.parameters
+-- a row in which each argument is a number
+abbrev pub has_numbers : {k : Shape} → Tree k → Bool
+has_numbers (Then a rest) = has_numbers rest
+has_numbers (Hand a rest) = false
+has_numbers t = true
+
+-- what each argument of a row is
+abbrev pub takes_of_row : {k : Shape} → Tree k → List Takes
+takes_of_row NoMore = []
+takes_of_row (Then a rest) = TakesNumber ∷ takes_of_row rest
+takes_of_row (Hand a rest) = TakesArray ∷ takes_of_row rest
+takes_of_row t = []
+
+-- what parameters take, item by item
+abbrev pub same_take : Takes → Takes → Bool
+same_take TakesNumber TakesNumber = true
+same_take TakesNumber TakesArray = false
+same_take TakesArray TakesNumber = false
+same_take TakesArray TakesArray = true
+
+abbrev pub same_takes : List Takes → List Takes → Bool
+same_takes [] [] = true
+same_takes [] (y ∷ ys) = false
+same_takes (x ∷ xs) [] = false
+same_takes (x ∷ xs) (y ∷ ys) = same_take x y && same_takes xs ys
+
+-- how many of them take a number, and how many an array
+
+abbrev pub numbers_among : List Takes → ℕ
+numbers_among [] = 0
+numbers_among (TakesNumber ∷ rest) = suc (numbers_among rest)
+numbers_among (TakesArray ∷ rest) = numbers_among rest
+
+abbrev pub arrays_among : List Takes → ℕ
+arrays_among [] = 0
+arrays_among (TakesNumber ∷ rest) = arrays_among rest
+arrays_among (TakesArray ∷ rest) = suc (arrays_among rest)
+
+abbrev pub numbers_taken : Function → ℕ
+numbers_taken f = numbers_among f.takes
+
+abbrev pub arrays_taken : Function → ℕ
+arrays_taken f = arrays_among f.takes
+
+-- a function that is called with such arguments, and may be used so
+abbrev pub can_call : (Gives → Bool) → List Takes → Option Function → Bool
+can_call wanted takes None = false
+can_call wanted takes (Some f) = wanted f.gives && same_takes takes f.takes
 
 -- expressions, each of which is used as a number
 
@@ -74,11 +121,12 @@ suits p sc (Binary operator a b) = suits p sc a && suits p sc b
 suits p sc (Both a b) = suits p sc a && suits p sc b
 suits p sc (Either a b) = suits p sc a && suits p sc b
 suits p sc (Choice c a b) = suits p sc c && (suits p sc a && suits p sc b)
-suits p sc (Apply f row) = can_call gives_int (row_length row) (slice_get p.functions f) && suits p sc row
+suits p sc (Apply f row) = can_call gives_int (takes_of_row row) (slice_get p.functions f) && suits p sc row
 suits p sc ReadInt = true
 suits p sc MoreInput = true
 suits p sc NoMore = true
 suits p sc (Then a rest) = suits p sc a && suits p sc rest
+suits p sc (Hand a rest) = names_array p sc a && suits p sc rest
 
 abbrev pub suits_place : Program → Scope → Place → Bool
 suits_place p sc (InLocal x) = is_in x sc.scalars
@@ -87,7 +135,7 @@ suits_place p sc (InElement a i) = names_array p sc a && suits p sc i
 
 -- the whole of an expression statement, which alone may be the call of a void function
 abbrev pub suits_whole : Program → Scope → Tree One → Bool
-suits_whole p sc (Apply f row) = can_call (λ gives. true) (row_length row) (slice_get p.functions f) && suits p sc row
+suits_whole p sc (Apply f row) = can_call (λ gives. true) (takes_of_row row) (slice_get p.functions f) && suits p sc row
 suits_whole p sc e = suits p sc e
 
 abbrev pub suits_action : Program → Scope → Action → Bool
@@ -141,7 +189,8 @@ suits_code p gives loops sc (Declare x e) = suits p sc e
 suits_code p gives loops sc (ClearArray a) = true
 suits_code p gives loops sc (Simply a) = suits_action p sc a
 suits_code p gives loops sc (Head a) = suits_action p sc a
-suits_code p gives loops sc (Print format row) = (is_format format && nat_eq (numbers_of format) (row_length row)) && suits p sc row
+suits_code p gives loops sc (Print format row) =
+    (is_format format && (nat_eq (numbers_of format) (row_length row) && has_numbers row)) && suits p sc row
 suits_code p gives loops sc (If e a) = suits p sc e && suits_code p gives loops sc a
 suits_code p gives loops sc (IfElse e a b) = suits p sc e && (suits_code p gives loops sc a && suits_code p gives loops sc b)
 suits_code p gives loops sc (While e a) = suits p sc e && suits_code p gives true sc a
@@ -187,16 +236,17 @@ are_all_from first count xs = list_all (λ k. is_in (first + k) xs) (below count
 
 -- functions and globals
 
-abbrev pub in_force_at_start : Function → Scope
-in_force_at_start f = record { scalars = below f.parameters; arrays = [] }
+-- its parameters
+abbrev pub in_force_at_start : Program → Function → Scope
+in_force_at_start p f = record { scalars = below f.parameters; arrays = map (λ k. length p.globals + k) (below (arrays_taken f)) }
 
--- the items of the function have its scalars behind its parameters, and its arrays behind the globals, each of which
--- some item has; an array has at least one word
+-- the items of the function have its scalars behind those that are parameters, and its arrays behind the globals and the
+-- array parameters, each of which some item has; an array has at least one word
 abbrev pub suits_function : Program → Function → Bool
 suits_function p f =
-    (suits_code p f.gives false (in_force_at_start f) f.body && at_most f.parameters f.scalars)
+    (suits_code p f.gives false (in_force_at_start p f) f.body && (at_most f.parameters f.scalars && nat_eq f.parameters (numbers_taken f)))
     && (are_all_from f.parameters (f.scalars - f.parameters) (scalars_of f.body)
-    && (are_all_from (length p.globals) (length f.arrays) (arrays_of f.body) && list_all (nat_lt 0) f.arrays))
+    && (are_all_from (length p.globals + arrays_taken f) (length f.arrays) (arrays_of f.body) && list_all (nat_lt 0) f.arrays))
 
 abbrev pub suits_global : GlobalVariable → Bool
 suits_global (ScalarGlobal z) = is_word z
@@ -205,7 +255,7 @@ suits_global (ArrayGlobal n) = nat_lt 0 n
 -- an `int` function without parameters
 abbrev pub is_main : Option Function → Bool
 is_main None = false
-is_main (Some f) = gives_int f.gives && nat_eq f.parameters 0
+is_main (Some f) = gives_int f.gives && nat_eq (length f.takes) 0
 
 -- limits
 
@@ -226,6 +276,7 @@ nodes_of ReadInt = 1
 nodes_of MoreInput = 1
 nodes_of NoMore = 0
 nodes_of (Then a rest) = nodes_of a + nodes_of rest
+nodes_of (Hand a rest) = 1 + nodes_of rest
 
 abbrev pub target_nodes : Place → ℕ
 target_nodes (InLocal x) = 1
@@ -267,7 +318,7 @@ code_nodes (ReturnValue e) = 1 + nodes_of e
 
 -- its body, its parameters, and all in the body
 abbrev pub function_nodes : Function → ℕ
-function_nodes f = 1 + f.parameters + code_nodes f.body
+function_nodes f = 1 + length f.takes + code_nodes f.body
 
 -- the formats of a body, in the order of the source
 abbrev pub formats_of : Code → List (List ℕ)
@@ -304,7 +355,7 @@ or_else None other = other
 abbrev pub limit_of : Program → Option Over
 limit_of p =
     or_else (over 3 256 (length p.functions ∷ []))
-    (or_else (over 4 8 (map (λ f. f.parameters) p.functions))
+    (or_else (over 4 8 (map (λ f. length f.takes) p.functions))
     (or_else (over 5 4000 (map function_nodes p.functions))
     (or_else (over 6 8192 (map (λ f. sum f.arrays) p.functions))
     (or_else (over 7 262144 (sum (map global_words p.globals) ∷ []))

@@ -10,13 +10,16 @@ use Rattle.vx_ast.specs.declared.tree.UnaryOperator.TheVariants as unary
 use Rattle.vx_ast.specs.declared.tree.BinaryOperator.{BinaryOperator}
 use Rattle.vx_ast.specs.declared.tree.BinaryOperator.TheVariants as binary
 use Rattle.vx_ast.specs.declared.tree.Gives.TheVariants as gives
+use Rattle.vx_ast.specs.declared.tree.Takes.{Takes}
+use Rattle.vx_ast.specs.declared.tree.Takes.TheVariants as takes
 use Rattle.vx_ast.specs.declared.syntax.Place.{Place}
 use Rattle.vx_ast.specs.declared.syntax.Name.{Name}
 use Rattle.vx_ast.specs.declared.syntax.Size.{Size}
+use Rattle.vx_ast.specs.declared.syntax.Parameter.{Parameter as AParameter}
 use Rattle.vx_ast.specs.Tree.{One, Row}
 use Rattle.vx_ast.specs.Syntax as syntax
 use Rattle.vx_ast.specs.Phrases as phrases
-use Rattle.vx_ast.specs.Phrases.{Phrase, Program, AfterName, GlobalValue, SignedNumber, MoreGlobals, Parameters, Parameter, MoreParameters, Block, Items, Item, ItemValue, MoreItems, Statement, ElsePart, First, OptionalExpression, OptionalSimple, Print, Simple, SimpleRest, Expression, ChoiceRest, Level, LevelRest, Primary, NameRest, Arguments, MoreExpressions, A, Derivation, Leaf, Node, NoMore, Then, Begins}
+use Rattle.vx_ast.specs.Phrases.{Phrase, Program, AfterName, GlobalValue, SignedNumber, MoreGlobals, Parameters, Parameter, ParameterBrackets, MoreParameters, Block, Items, Item, ItemValue, MoreItems, Statement, ElsePart, First, OptionalExpression, OptionalSimple, Print, Simple, SimpleRest, Expression, ChoiceRest, Level, LevelRest, Primary, NameRest, Arguments, MoreExpressions, A, Derivation, Leaf, Node, NoMore, Then, Begins}
 
 -- what a token holds
 
@@ -88,6 +91,12 @@ joined (kinds.Mark marks.AmpersandAmpersand) left right = syntax.Both left right
 joined (kinds.Mark marks.BarBar) left right = syntax.Either left right
 joined k left right = binary_by (operator_of k) left right
 
+-- where the first token stands
+unfoldable pub first_place : Derivation One → Place
+first_place (Leaf t) = place_of t
+first_place (Node p (Then d more)) = first_place d
+first_place (Node p NoMore) = record { line = 0; column = 0 }
+
 -- expressions; operators of one strength take what stands before them as their left operand
 unfoldable mutual
   pub expression_of : Derivation One → syntax.Phrase One
@@ -117,15 +126,9 @@ unfoldable mutual
 
   -- an expression and those behind it, with a comma before it or without one
   pub arguments_in : Derivation Row → syntax.Phrase Row
-  arguments_in (Then first (Then more NoMore)) = syntax.Then (expression_of first) (arguments_of more)
-  arguments_in (Then comma (Then next (Then more NoMore))) = syntax.Then (expression_of next) (arguments_of more)
+  arguments_in (Then first (Then more NoMore)) = syntax.Then (first_place first) (expression_of first) (arguments_of more)
+  arguments_in (Then comma (Then next (Then more NoMore))) = syntax.Then (first_place next) (expression_of next) (arguments_of more)
   arguments_in row = syntax.NoMore
-
--- where the first token stands
-unfoldable pub first_place : Derivation One → Place
-first_place (Leaf t) = place_of t
-first_place (Node p (Then d more)) = first_place d
-first_place (Node p NoMore) = record { line = 0; column = 0 }
 
 abbrev pub target_of : Derivation One → syntax.Target
 target_of d = record { place = first_place d; phrase = expression_of d }
@@ -256,11 +259,16 @@ unfoldable pub more_globals_of : Derivation One → List syntax.Definition
 more_globals_of (Node MoreGlobals (Then comma (Then (Leaf name) (Then value (Then more NoMore))))) = global_of name value ∷ more_globals_of more
 more_globals_of d = []
 
-abbrev pub parameter_of : Derivation One → List Name
-parameter_of (Node Parameter (Then int (Then (Leaf name) NoMore))) = name_of name ∷ []
+-- what a parameter takes with this behind its name
+abbrev pub takes_of : Derivation One → Takes
+takes_of (Node ParameterBrackets (Then opening (Then closing NoMore))) = takes.Array
+takes_of d = takes.Number
+
+abbrev pub parameter_of : Derivation One → List AParameter
+parameter_of (Node Parameter (Then int (Then (Leaf name) (Then brackets NoMore)))) = (record { name = name_of name; takes = takes_of brackets }) ∷ []
 parameter_of d = []
 
-unfoldable pub parameters_of : Derivation One → List Name
+unfoldable pub parameters_of : Derivation One → List AParameter
 parameters_of (Node Parameters (Then first (Then more NoMore))) = parameter_of first ++ parameters_of more
 parameters_of (Node MoreParameters (Then comma (Then next (Then more NoMore)))) = parameter_of next ++ parameters_of more
 parameters_of d = []

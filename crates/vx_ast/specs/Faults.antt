@@ -3,17 +3,20 @@
 use Rattle.std.specs.Prelude.{ℕ, ◌+◌, Bool, true, false, ◌&&◌, not, if◌then◌else◌, nat_lt, nat_eq, List, [], ◌∷◌, ◌++◌, length, take, Option, Some, None, codes}
 use Rattle.std.specs.List.{list_any}
 use Rattle.vx_ast.specs.declared.tree.Gives.{Gives}
+use Rattle.vx_ast.specs.declared.tree.Takes.{Takes}
+use Rattle.vx_ast.specs.declared.tree.Takes.TheVariants.{Number as TakesNumber, Array as TakesArray}
 use Rattle.vx_ast.specs.declared.syntax.Place.{Place}
 use Rattle.vx_ast.specs.declared.syntax.Name.{Name}
 use Rattle.vx_ast.specs.declared.syntax.Size.{Size}
+use Rattle.vx_ast.specs.declared.syntax.Parameter.{Parameter}
 use Rattle.vx_ast.specs.declared.names.Named.{Named}
 use Rattle.vx_ast.specs.declared.names.Named.TheVariants.{Scalar as AScalar, Global as AGlobal, Array as AnArray, Function as AFunctionNamed, ReadInt as Reads, MoreInput as AsksMore, Print as Prints}
 use Rattle.vx_ast.specs.declared.names.Fault.{Fault}
-use Rattle.vx_ast.specs.Tree.{Shape, One}
+use Rattle.vx_ast.specs.Tree.{One, Row}
 use Rattle.vx_ast.specs.Syntax.{Phrase, Number, Use, Element, Call, Unary, Binary, Both, Either, Choice, NoMore, Then, Action, Evaluate, Assign, Compound, Increase, Decrease, Code, Nothing, Seq, Empty, Block, Scalar, ScalarWith, Array, Simply, Head, Print, If, IfElse, While, DoWhile, For, Break, Continue, Return, ReturnValue, Function, Definition, GlobalScalar, GlobalArray, AFunction, Program}
 use Rattle.vx_ast.specs.Accepted.{gives_int, is_format, numbers_of}
 use Rattle.vx_ast.specs.declared.names.FileName.{FileName}
-use Rattle.vx_ast.specs.Scopes.{Environment, named, same_name, is_predeclared, is_taken, with_scalar, with_parameters, inside, outside, behind, names_of, at_function}
+use Rattle.vx_ast.specs.Scopes.{Environment, named, same_name, is_predeclared, is_taken, wanted_by, with_parameter, with_parameters, inside, outside, behind, names_of, at_function}
 
 -- a fault of this code, where the test holds
 abbrev pub fault_if : Bool → ℕ → Place → List Fault
@@ -32,7 +35,7 @@ used x (Some Reads) = fault_if true 7 x.place
 used x (Some AsksMore) = fault_if true 7 x.place
 used x (Some Prints) = fault_if true 7 x.place
 
--- with an index
+-- with an index, or handed over as an array
 abbrev pub indexed : Name → Option Named → List Fault
 indexed x None = fault_if true 5 x.place
 indexed x (Some (AScalar n)) = fault_if true 7 x.place
@@ -69,28 +72,42 @@ changed place x (Some Prints) = fault_if true 7 x.place ++ fault_if true 12 plac
 -- expressions
 
 -- how many arguments a row has
-abbrev pub row_length : {k : Shape} → Phrase k → ℕ
+abbrev pub row_length : Phrase Row → ℕ
 row_length NoMore = 0
-row_length (Then a rest) = row_length rest + 1
-row_length e = 0
+row_length (Then place a rest) = row_length rest + 1
 
--- used as a number
-abbrev pub phrase_faults : {k : Shape} → Environment → Phrase k → List Fault
-phrase_faults env (Number z) = []
-phrase_faults env (Use x) = used x (named x.bytes env)
-phrase_faults env (Element a i) = indexed a (named a.bytes env) ++ phrase_faults env i
-phrase_faults env (Call f row) = called false (row_length row) f (named f.bytes env) ++ phrase_faults env row
-phrase_faults env (Unary operator a) = phrase_faults env a
-phrase_faults env (Binary operator a b) = phrase_faults env a ++ phrase_faults env b
-phrase_faults env (Both a b) = phrase_faults env a ++ phrase_faults env b
-phrase_faults env (Either a b) = phrase_faults env a ++ phrase_faults env b
-phrase_faults env (Choice c a b) = phrase_faults env c ++ (phrase_faults env a ++ phrase_faults env b)
-phrase_faults env NoMore = []
-phrase_faults env (Then a rest) = phrase_faults env a ++ phrase_faults env rest
+abbrev pub same_place : Place → Place → Bool
+same_place a b = nat_eq a.line b.line && nat_eq a.column b.column
+
+-- an argument where an array is taken, whose first token stands at the place: one bare name, without parentheses. Any other one
+-- is a fault, and has those that it has as a number besides
+abbrev pub handed : Environment → Place → Phrase One → List Fault → List Fault
+handed env place (Use x) others = if same_place place x.place then indexed x (named x.bytes env) else (fault_if true 7 place ++ others)
+handed env place e others = fault_if true 7 place ++ others
+
+abbrev mutual
+  -- used as a number
+  pub phrase_faults : Environment → Phrase One → List Fault
+  phrase_faults env (Number z) = []
+  phrase_faults env (Use x) = used x (named x.bytes env)
+  phrase_faults env (Element a i) = indexed a (named a.bytes env) ++ phrase_faults env i
+  phrase_faults env (Call f row) = called false (row_length row) f (named f.bytes env) ++ row_faults env (wanted_by env (named f.bytes env)) row
+  phrase_faults env (Unary operator a) = phrase_faults env a
+  phrase_faults env (Binary operator a b) = phrase_faults env a ++ phrase_faults env b
+  phrase_faults env (Both a b) = phrase_faults env a ++ phrase_faults env b
+  phrase_faults env (Either a b) = phrase_faults env a ++ phrase_faults env b
+  phrase_faults env (Choice c a b) = phrase_faults env c ++ (phrase_faults env a ++ phrase_faults env b)
+
+  -- arguments, where this is taken: each one behind the last parameter is a number
+  pub row_faults : Environment → List Takes → Phrase Row → List Fault
+  row_faults env takes NoMore = []
+  row_faults env [] (Then place a rest) = phrase_faults env a ++ row_faults env [] rest
+  row_faults env (TakesNumber ∷ takes) (Then place a rest) = phrase_faults env a ++ row_faults env takes rest
+  row_faults env (TakesArray ∷ takes) (Then place a rest) = handed env place a (phrase_faults env a) ++ row_faults env takes rest
 
 -- the whole of an expression statement, which alone may be the call of a void function
 abbrev pub whole_faults : Environment → Phrase One → List Fault
-whole_faults env (Call f row) = called true (row_length row) f (named f.bytes env) ++ phrase_faults env row
+whole_faults env (Call f row) = called true (row_length row) f (named f.bytes env) ++ row_faults env (wanted_by env (named f.bytes env)) row
 whole_faults env e = phrase_faults env e
 
 -- a target is a scalar or an element
@@ -131,7 +148,7 @@ code_faults gives loops env (ScalarWith x e) = phrase_faults env e ++ declares e
 code_faults gives loops env (Array a size) = declares env a ++ sizes_faults size
 code_faults gives loops env (Simply a) = action_faults env a
 code_faults gives loops env (Head a) = action_faults env a
-code_faults gives loops env (Print at at_format format row) = prints at at_format format (row_length row) ++ phrase_faults env row
+code_faults gives loops env (Print at at_format format row) = prints at at_format format (row_length row) ++ row_faults env [] row
 code_faults gives loops env (If e a) = phrase_faults env e ++ code_faults gives loops (inside env) a
 code_faults gives loops env (IfElse e a b) =
     phrase_faults env e ++ (code_faults gives loops (inside env) a ++ code_faults gives loops (inside (outside env (behind a (inside env)))) b)
@@ -148,9 +165,9 @@ code_faults gives loops env (ReturnValue at e) = fault_if (not (gives_int gives)
 
 -- functions and globals
 
-abbrev pub parameter_faults : Environment → List Name → List Fault
+abbrev pub parameter_faults : Environment → List Parameter → List Fault
 parameter_faults env [] = []
-parameter_faults env (x ∷ xs) = declares env x ++ parameter_faults (with_scalar x env) xs
+parameter_faults env (q ∷ qs) = declares env q.name ++ parameter_faults (with_parameter q env) qs
 
 abbrev pub function_faults : Environment → Function → List Fault
 function_faults env f = parameter_faults env f.parameters ++ code_faults f.gives false (with_parameters f.parameters env) f.body

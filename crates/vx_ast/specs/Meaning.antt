@@ -13,7 +13,7 @@ use Rattle.vx_ast.specs.declared.tree.BinaryOperator.{BinaryOperator}
 use Rattle.vx_ast.specs.declared.tree.BinaryOperator.TheVariants.{Multiply, Divide, Remainder, Add, Subtract, ShiftLeft, ShiftRight, Less, LessEqual, Greater, GreaterEqual, Equal, NotEqual, BitAnd, BitXor, BitOr}
 use Rattle.vx_ast.specs.declared.tree.GlobalVariable.{GlobalVariable}
 use Rattle.vx_ast.specs.declared.tree.GlobalVariable.TheVariants.{Scalar as ScalarGlobal, Array as ArrayGlobal}
-use Rattle.vx_ast.specs.Tree.{Shape, One, Row, Tree, Literal, Local, Global, Element, Unary, Binary, Both, Either, Choice, Apply, ReadInt, MoreInput, NoMore, Then, Place, InLocal, InGlobal, InElement, Action, Evaluate, Assign, Compound, Increase, Decrease, Code, Nothing, Seq, Empty, Block, Clear, Declare, ClearArray, Simply, Head, Print, If, IfElse, While, DoWhile, For, Break, Continue, Return, ReturnValue, Function, Program}
+use Rattle.vx_ast.specs.Tree.{Shape, One, Row, Tree, Literal, Local, Global, Element, Unary, Binary, Both, Either, Choice, Apply, ReadInt, MoreInput, NoMore, Then, Hand, Place, InLocal, InGlobal, InElement, Action, Evaluate, Assign, Compound, Increase, Decrease, Code, Nothing, Seq, Empty, Block, Clear, Declare, ClearArray, Simply, Head, Print, If, IfElse, While, DoWhile, For, Break, Continue, Return, ReturnValue, Function, Program}
 
 pub record Store : Type 0 where
   -- the scalars of the active function, by their numbers
@@ -164,6 +164,7 @@ value spot calls ReadInt s = next_input s.input s
 value spot calls MoreInput s = With (one_if (is_left s.input)) s
 value spot calls NoMore s = With [] s
 value spot calls (Then a rest) s = and_then (value spot calls a s) (λ x t. and_then (value spot calls rest t) (λ xs u. With (NumberArgument x ∷ xs) u))
+value spot calls (Hand a rest) s = and_then (value spot calls rest s) (λ xs u. With (ArrayArgument (spot a) ∷ xs) u)
 
 -- simple statements: the place of the target is found first, and read where the form needs it
 

@@ -21,6 +21,8 @@ pub data Phrase : Type 0 where
   MoreGlobals : Phrase
   Parameters : Phrase
   Parameter : Phrase
+  -- behind the name of a parameter: `[]`, where it takes an array
+  ParameterBrackets : Phrase
   MoreParameters : Phrase
   Block : Phrase
   -- { decl | statement }
@@ -123,7 +125,9 @@ parts_of MoreGlobals t = Some []
 parts_of Parameters (kinds.Mark CloseParenthesis) = Some []
 parts_of Parameters (kinds.Keyword Void) = Some (word Void ∷ [])
 parts_of Parameters t = Some (A Parameter ∷ A MoreParameters ∷ [])
-parts_of Parameter t = Some (word Int ∷ AName ∷ [])
+parts_of Parameter t = Some (word Int ∷ AName ∷ A ParameterBrackets ∷ [])
+parts_of ParameterBrackets (kinds.Mark OpenBracket) = Some (mark OpenBracket ∷ mark CloseBracket ∷ [])
+parts_of ParameterBrackets t = Some []
 parts_of MoreParameters (kinds.Mark Comma) = Some (mark Comma ∷ A Parameter ∷ A MoreParameters ∷ [])
 parts_of MoreParameters t = Some []
 parts_of Block t = Some (mark OpenBrace ∷ A Items ∷ mark CloseBrace ∷ [])

@@ -1,12 +1,15 @@
 -- The program that a parsed source is, each name with its declaration. What stands for a name that its place cannot
 -- take, which is a fault, does not matter.
 use Rattle.std.specs.Prelude.{ℕ, ◌+◌, pos, if◌then◌else◌, List, [], ◌∷◌, length, Option, Some, None}
+use Rattle.vx_ast.specs.declared.tree.Takes.{Takes}
+use Rattle.vx_ast.specs.declared.tree.Takes.TheVariants.{Number as TakesNumber, Array as TakesArray}
 use Rattle.vx_ast.specs.declared.names.Named.{Named}
 use Rattle.vx_ast.specs.declared.names.Named.TheVariants.{Scalar as AScalar, Global as AGlobal, Array as AnArray, Function as AFunctionNamed, ReadInt as Reads, MoreInput as AsksMore, Print as Prints}
 use Rattle.vx_ast.specs.Tree as tree
-use Rattle.vx_ast.specs.Tree.{Shape, One, Row, Tree, Place}
+use Rattle.vx_ast.specs.Tree.{One, Row, Tree, Place}
 use Rattle.vx_ast.specs.Syntax.{Phrase, Number, Use, Element, Call, Unary, Binary, Both, Either, Choice, NoMore, Then, Action, Evaluate, Assign, Compound, Increase, Decrease, Code, Nothing, Seq, Empty, Block, Scalar, ScalarWith, Array, Simply, Head, Print, If, IfElse, While, DoWhile, For, Break, Continue, Return, ReturnValue, Function, Definition, GlobalScalar, GlobalArray, AFunction, Program}
-use Rattle.vx_ast.specs.Scopes.{Environment, named, with_parameters, inside, outside, behind, globals_of, at_function}
+use Rattle.vx_ast.specs.Scopes.{Environment, named, wanted_by, takes_of, with_parameters, inside, outside, behind, globals_of, at_function}
+use Rattle.vx_ast.specs.Accepted.{numbers_among}
 use Rattle.vx_ast.specs.Faults.{is_main}
 
 abbrev pub number_named : Option Named → Tree One
@@ -49,19 +52,30 @@ place_named (Some Reads) = tree.InLocal 0
 place_named (Some AsksMore) = tree.InLocal 0
 place_named (Some Prints) = tree.InLocal 0
 
+-- the array that an argument names
+abbrev pub array_in : Environment → Phrase One → ℕ
+array_in env (Use x) = array_named (named x.bytes env)
+array_in env e = 0
+
 -- expressions, where this is known
-abbrev pub tree_in : {k : Shape} → Environment → Phrase k → Tree k
-tree_in env (Number z) = tree.Literal z
-tree_in env (Use x) = number_named (named x.bytes env)
-tree_in env (Element a i) = tree.Element (array_named (named a.bytes env)) (tree_in env i)
-tree_in env (Call f row) = call_named (named f.bytes env) (tree_in env row)
-tree_in env (Unary operator a) = tree.Unary operator (tree_in env a)
-tree_in env (Binary operator a b) = tree.Binary operator (tree_in env a) (tree_in env b)
-tree_in env (Both a b) = tree.Both (tree_in env a) (tree_in env b)
-tree_in env (Either a b) = tree.Either (tree_in env a) (tree_in env b)
-tree_in env (Choice c a b) = tree.Choice (tree_in env c) (tree_in env a) (tree_in env b)
-tree_in env NoMore = tree.NoMore
-tree_in env (Then a rest) = tree.Then (tree_in env a) (tree_in env rest)
+abbrev mutual
+  pub tree_in : Environment → Phrase One → Tree One
+  tree_in env (Number z) = tree.Literal z
+  tree_in env (Use x) = number_named (named x.bytes env)
+  tree_in env (Element a i) = tree.Element (array_named (named a.bytes env)) (tree_in env i)
+  tree_in env (Call f row) = call_named (named f.bytes env) (row_in env (wanted_by env (named f.bytes env)) row)
+  tree_in env (Unary operator a) = tree.Unary operator (tree_in env a)
+  tree_in env (Binary operator a b) = tree.Binary operator (tree_in env a) (tree_in env b)
+  tree_in env (Both a b) = tree.Both (tree_in env a) (tree_in env b)
+  tree_in env (Either a b) = tree.Either (tree_in env a) (tree_in env b)
+  tree_in env (Choice c a b) = tree.Choice (tree_in env c) (tree_in env a) (tree_in env b)
+
+  -- arguments, where this is taken: each one behind the last parameter is a number
+  pub row_in : Environment → List Takes → Phrase Row → Tree Row
+  row_in env takes NoMore = tree.NoMore
+  row_in env [] (Then place a rest) = tree.Then (tree_in env a) (row_in env [] rest)
+  row_in env (TakesNumber ∷ takes) (Then place a rest) = tree.Then (tree_in env a) (row_in env takes rest)
+  row_in env (TakesArray ∷ takes) (Then place a rest) = tree.Hand (array_in env a) (row_in env takes rest)
 
 abbrev pub target_in : Environment → Phrase One → Place
 target_in env (Use x) = place_named (named x.bytes env)
@@ -90,7 +104,7 @@ code_in env (ScalarWith x e) = tree.Declare env.scalars (tree_in env e)
 code_in env (Array a size) = tree.ClearArray env.arrays
 code_in env (Simply a) = tree.Simply (action_in env a)
 code_in env (Head a) = tree.Head (action_in env a)
-code_in env (Print at at_format format row) = tree.Print format (tree_in env row)
+code_in env (Print at at_format format row) = tree.Print format (row_in env [] row)
 code_in env (If e a) = tree.If (tree_in env e) (code_in (inside env) a)
 code_in env (IfElse e a b) = tree.IfElse (tree_in env e) (code_in (inside env) a) (code_in (inside (outside env (behind a (inside env)))) b)
 code_in env (While e a) = tree.While (tree_in env e) (code_in (inside env) a)
@@ -106,7 +120,8 @@ abbrev pub function_in : Environment → Function → tree.Function
 function_in env f = record {
   name = f.name.bytes;
   gives = f.gives;
-  parameters = length f.parameters;
+  parameters = numbers_among (takes_of f.parameters);
+  takes = takes_of f.parameters;
   scalars = (behind f.body (with_parameters f.parameters env)).scalars;
   arrays = (behind f.body (with_parameters f.parameters env)).sizes;
   body = code_in (with_parameters f.parameters env) f.body;

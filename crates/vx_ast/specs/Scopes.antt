@@ -1,13 +1,16 @@
 -- Which names are known at a place of a parsed source, and what they stand for. The scopes are the file with the
 -- predeclared names, each function with its parameters and the items of its body, each inner block, branch and body of
 -- a loop, and each `for`. An inner name hides an outer one; of two names of one scope the first one stands.
-use Rattle.std.specs.Prelude.{ℕ, zero, suc, ◌+◌, Bool, true, false, if◌then◌else◌, nat_eq, List, [], ◌∷◌, ◌++◌, length, Option, Some, None, codes}
+use Rattle.std.specs.Prelude.{ℕ, zero, suc, ◌+◌, Bool, true, false, if◌then◌else◌, nat_eq, List, [], ◌∷◌, ◌++◌, length, map, slice_index_or, Option, Some, None, codes}
 use Rattle.std.specs.List.{list_any}
 use lib.Pointwise.{pointwise}
 use Rattle.vx_ast.specs.declared.tree.GlobalVariable.{GlobalVariable}
 use Rattle.vx_ast.specs.declared.tree.GlobalVariable.TheVariants.{Scalar as ScalarGlobal, Array as ArrayGlobal}
+use Rattle.vx_ast.specs.declared.tree.Takes.{Takes}
+use Rattle.vx_ast.specs.declared.tree.Takes.TheVariants.{Number as TakesNumber, Array as TakesArray}
 use Rattle.vx_ast.specs.declared.syntax.Name.{Name}
 use Rattle.vx_ast.specs.declared.syntax.Size.{Size}
+use Rattle.vx_ast.specs.declared.syntax.Parameter.{Parameter}
 use Rattle.vx_ast.specs.declared.names.Named.{Named}
 use Rattle.vx_ast.specs.declared.names.Named.TheVariants.{Scalar as AScalar, Global as AGlobal, Array as AnArray, Function as AFunctionNamed, ReadInt as Reads, MoreInput as AsksMore, Print as Prints}
 use Rattle.vx_ast.specs.declared.names.Meant.{Meant}
@@ -55,6 +58,8 @@ pub record Environment : Type 0 where
   -- all names of the file, in the order of the source, and how many of their declarations stand above the function
   pub names : List FileName
   pub above : ℕ
+  -- what the parameters of each function of the file take, by the number of the function
+  pub takes : List (List Takes)
   -- how many scalars the function has so far
   pub scalars : ℕ
   -- the number of its next array, and the words of each array that it has so far
@@ -74,6 +79,11 @@ named_in (Some m) = Some m.named
 -- what a name stands for
 abbrev pub named : List ℕ → Environment → Option Named
 named x env = named_in (look x env)
+
+-- what the parameters of a called function take, where a function of the file is named
+abbrev pub wanted_by : Environment → Option Named → List Takes
+wanted_by env (Some (AFunctionNamed f gives count)) = slice_index_or env.takes f []
+wanted_by env n = []
 
 -- a name of this depth
 abbrev pub is_at : ℕ → Option Meant → Bool
@@ -97,10 +107,20 @@ with_scalar x env = record (declared x.bytes (AScalar env.scalars) env) { scalar
 abbrev pub with_array : Name → Size → Environment → Environment
 with_array a size env = record (declared a.bytes (AnArray env.arrays) env) { arrays = env.arrays + 1; sizes = env.sizes ++ size.words ∷ [] }
 
--- parameters are scalars
-abbrev pub with_parameters : List Name → Environment → Environment
+-- a parameter is a scalar, or an array that has no words of its own, but those of the one that is handed over
+abbrev pub with_handed : Name → Environment → Environment
+with_handed a env = record (declared a.bytes (AnArray env.arrays) env) { arrays = env.arrays + 1 }
+
+abbrev pub with_taken : Takes → Name → Environment → Environment
+with_taken TakesNumber x env = with_scalar x env
+with_taken TakesArray a env = with_handed a env
+
+abbrev pub with_parameter : Parameter → Environment → Environment
+with_parameter q env = with_taken q.takes q.name env
+
+abbrev pub with_parameters : List Parameter → Environment → Environment
 with_parameters [] env = env
-with_parameters (x ∷ xs) env = with_parameters xs (with_scalar x env)
+with_parameters (q ∷ qs) env = with_parameters qs (with_parameter q env)
 
 -- in a scope of its own, and behind it
 abbrev pub inside : Environment → Environment
@@ -140,6 +160,16 @@ names_from a f (GlobalScalar x z ∷ ds) = (record { name = x.bytes; everywhere 
 names_from a f (GlobalArray x size ∷ ds) = (record { name = x.bytes; everywhere = false; named = AnArray a }) ∷ names_from (a + 1) f ds
 names_from a f (AFunction g ∷ ds) = (record { name = g.name.bytes; everywhere = true; named = AFunctionNamed f g.gives (length g.parameters) }) ∷ names_from a (f + 1) ds
 
+-- what parameters take, and those of each function among definitions
+abbrev pub takes_of : List Parameter → List Takes
+takes_of qs = map (λ q. q.takes) qs
+
+abbrev pub takes_from : List Definition → List (List Takes)
+takes_from [] = []
+takes_from (GlobalScalar x z ∷ ds) = takes_from ds
+takes_from (GlobalArray x size ∷ ds) = takes_from ds
+takes_from (AFunction g ∷ ds) = takes_of g.parameters ∷ takes_from ds
+
 abbrev pub names_of : Program → List FileName
 names_of p = names_from 0 0 p.definitions
 
@@ -152,14 +182,15 @@ abbrev pub globals_of : List Definition → List GlobalVariable
 globals_of [] = []
 globals_of (d ∷ ds) = global_of d ++ globals_of ds
 
--- at the start of the function with so many definitions above it, before its parameters: its own arrays have the
--- numbers behind the globals
+-- at the start of the function with so many definitions above it, before its parameters: its arrays have the numbers
+-- behind the globals
 abbrev pub at_function : Program → (above : ℕ) → Environment
 at_function p above = record {
   depth = 1;
   locals = [];
   names = names_of p;
   above = above;
+  takes = takes_from p.definitions;
   scalars = 0;
   arrays = length (globals_of p.definitions);
   sizes = [];

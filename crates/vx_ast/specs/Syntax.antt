@@ -7,6 +7,7 @@ use Rattle.vx_ast.specs.declared.tree.Gives.{Gives}
 use Rattle.vx_ast.specs.declared.syntax.Place.{Place}
 use Rattle.vx_ast.specs.declared.syntax.Name.{Name}
 use Rattle.vx_ast.specs.declared.syntax.Size.{Size}
+use Rattle.vx_ast.specs.declared.syntax.Parameter.{Parameter}
 use Rattle.vx_ast.specs.Tree.{Shape, One, Row}
 
 pub data Phrase : Shape → Type 0 where
@@ -21,7 +22,8 @@ pub data Phrase : Shape → Type 0 where
   Either : Phrase One → Phrase One → Phrase One
   Choice : Phrase One → Phrase One → Phrase One → Phrase One
   NoMore : Phrase Row
-  Then : Phrase One → Phrase Row → Phrase Row
+  -- an argument, and where its first token stands
+  Then : Place → Phrase One → Phrase Row → Phrase Row
 
 -- what stands where a target is wanted, and where its first token stands
 pub record Target : Type 0 where
@@ -63,7 +65,7 @@ pub data Code : Type 0 where
 pub record Function : Type 0 where
   pub gives : Gives
   pub name : Name
-  pub parameters : List Name
+  pub parameters : List Parameter
   pub body : Code
 
 pub data Definition : Type 0 where

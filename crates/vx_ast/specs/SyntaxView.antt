@@ -1,7 +1,8 @@
 -- A parsed source of the code as a tree without pointers.
 use Rattle.std.specs.Prelude.{ℕ, ℤ, List, [], ◌∷◌, map, option_map, Option, Some, None}
-use Rattle.vx_ast.specs.declared.syntax.Expression.{Expression, Row_of-Expression, end_of-Expression, more_of-Expression}
+use Rattle.vx_ast.specs.declared.syntax.Expression.{Expression, Row_of-Argument, end_of-Argument, more_of-Argument}
 use Rattle.vx_ast.specs.declared.syntax.Expression.TheVariants.{Number, Name as ANameUsed, Element', Call', Unary', Binary', Both', Either', Choice'}
+use Rattle.vx_ast.specs.declared.syntax.Argument.{Argument}
 use Rattle.vx_ast.specs.declared.syntax.Target.{Target}
 use Rattle.vx_ast.specs.declared.syntax.Simple.{Simple}
 use Rattle.vx_ast.specs.declared.syntax.Simple.TheVariants.{Evaluate, Assign, Compound, Increase, Decrease}
@@ -31,14 +32,14 @@ abbrev mutual
   phrase_of (Either' p a q b) = syntax.Either (phrase_of a) (phrase_of b)
   phrase_of (Choice' p c q a r b) = syntax.Choice (phrase_of c) (phrase_of a) (phrase_of b)
 
-  pub row_of : {m : _} → Row_of-Expression m → Phrase Row
-  row_of end_of-Expression = syntax.NoMore
-  row_of (more_of-Expression a rest) = syntax.Then (phrase_of a) (row_of rest)
+  pub row_of : {m : _} → Row_of-Argument m → Phrase Row
+  row_of end_of-Argument = syntax.NoMore
+  row_of (more_of-Argument at a rest) = syntax.Then at (phrase_of a) (row_of rest)
 
 -- the same of lists
-abbrev pub row_in : List Expression → Phrase Row
+abbrev pub row_in : List Argument → Phrase Row
 row_in [] = syntax.NoMore
-row_in (e ∷ es) = syntax.Then (phrase_of e) (row_in es)
+row_in (a ∷ rest) = syntax.Then a.place (phrase_of a.expression) (row_in rest)
 
 abbrev pub target_of : Target → syntax.Target
 target_of t = record { place = t.place; phrase = phrase_of t.expression }

@@ -4,6 +4,7 @@ use Rattle.std.specs.Prelude.{ℕ, ℤ, List, Option}
 use Rattle.vx_ast.specs.declared.tree.UnaryOperator.{UnaryOperator}
 use Rattle.vx_ast.specs.declared.tree.BinaryOperator.{BinaryOperator}
 use Rattle.vx_ast.specs.declared.tree.Gives.{Gives}
+use Rattle.vx_ast.specs.declared.tree.Takes.{Takes}
 use Rattle.vx_ast.specs.declared.tree.GlobalVariable.{GlobalVariable}
 
 pub data Shape : Type 0 where
@@ -26,7 +27,9 @@ pub data Tree : Shape → Type 0 where
   ReadInt : Tree One
   MoreInput : Tree One
   NoMore : Tree Row
+  -- an argument that is a number, and an array that is handed over
   Then : Tree One → Tree Row → Tree Row
+  Hand : ℕ → Tree Row → Tree Row
 
 -- what an assignment changes
 pub data Place : Type 0 where
@@ -68,7 +71,9 @@ pub data Code : Type 0 where
 pub record Function : Type 0 where
   pub name : List ℕ
   pub gives : Gives
+  -- how many parameters are numbers, and what each parameter takes
   pub parameters : ℕ
+  pub takes : List Takes
   pub scalars : ℕ
   -- the words of its own arrays
   pub arrays : List ℕ

@@ -1,7 +1,9 @@
 -- A program of the code as a tree without pointers.
 use Rattle.std.specs.Prelude.{ℕ, ℤ, List, [], ◌∷◌, map, option_map, Option, Some, None}
-use Rattle.vx_ast.specs.declared.tree.Expression.{Expression, Row_of-Expression, end_of-Expression, more_of-Expression}
+use Rattle.vx_ast.specs.declared.tree.Expression.{Expression, Row_of-Argument, end_of-Argument, more_of-Argument}
 use Rattle.vx_ast.specs.declared.tree.Expression.TheVariants.{Number, Scalar, Global, Element', Unary', Binary', Both', Either', Choice', Call', ReadInt, MoreInput}
+use Rattle.vx_ast.specs.declared.tree.Argument.{Argument}
+use Rattle.vx_ast.specs.declared.tree.Argument.TheVariants.{Number as ANumber, Array as AnArray}
 use Rattle.vx_ast.specs.declared.tree.Target.{Target}
 use Rattle.vx_ast.specs.declared.tree.Target.TheVariants.{Scalar as ToScalar, Global as ToGlobal, Element as ToElement}
 use Rattle.vx_ast.specs.declared.tree.Simple.{Simple}
@@ -32,11 +34,21 @@ abbrev mutual
   tree_of ReadInt = tree.ReadInt
   tree_of MoreInput = tree.MoreInput
 
-  pub row_of : {m : _} → Row_of-Expression m → Tree Row
-  row_of end_of-Expression = tree.NoMore
-  row_of (more_of-Expression a rest) = tree.Then (tree_of a) (row_of rest)
+  -- an argument before the others
+  pub argument_before : Argument → Tree Row → Tree Row
+  argument_before (ANumber e) rest = tree.Then (tree_of e) rest
+  argument_before (AnArray a) rest = tree.Hand a rest
+
+  pub row_of : {m : _} → Row_of-Argument m → Tree Row
+  row_of end_of-Argument = tree.NoMore
+  row_of (more_of-Argument a rest) = argument_before a (row_of rest)
 
 -- the same of lists
+abbrev pub arguments_in : List Argument → Tree Row
+arguments_in [] = tree.NoMore
+arguments_in (x ∷ xs) = argument_before x (arguments_in xs)
+
+-- a row of numbers
 abbrev pub row_in : List Expression → Tree Row
 row_in [] = tree.NoMore
 row_in (e ∷ es) = tree.Then (tree_of e) (row_in es)
@@ -101,6 +113,7 @@ function_of f = record {
   name = f.name;
   gives = f.gives;
   parameters = f.parameters;
+  takes = f.takes;
   scalars = f.scalars;
   arrays = f.arrays;
   body = all_in f.body.items;

@@ -1,8 +1,8 @@
 // The tree of a source as it is parsed: every name as it is written, and the line and column of each token that a
-// fault may name. Parentheses leave no trace but in the place of a target. Contracts see it without pointers, by
-// specs/SyntaxView.antt.
+// fault may name. Parentheses leave no trace but in the place of a target or an argument. Contracts see it without
+// pointers, by specs/SyntaxView.antt.
 
-use crate::tree::{BinaryOperator, Gives, UnaryOperator};
+use crate::tree::{BinaryOperator, Gives, Takes, UnaryOperator};
 use vx_base::listed::{Bytes, Listed};
 
 /// A place in a source: its line and its column, both from 1, the column counted in bytes.
@@ -34,7 +34,7 @@ pub enum Expression {
     /// A name with an index.
     Element(Name, Box<Expression>),
     /// A name with arguments.
-    Call(Name, Vec<Expression>),
+    Call(Name, Vec<Argument>),
     /// An operator with one operand.
     Unary(UnaryOperator, Box<Expression>),
     /// An operator with two operands that are both evaluated.
@@ -45,6 +45,16 @@ pub enum Expression {
     Either(Box<Expression>, Box<Expression>),
     /// `?:`: the test, then the operand where it holds and the one where it does not.
     Choice(Box<Expression>, Box<Expression>, Box<Expression>),
+}
+
+/// An argument of a call or of a `printf`: any expression.
+#[cycle(syntax_expression)]
+#[derive(Drop)]
+pub struct Argument {
+    /// Where its first token stands, which may be a parenthesis.
+    pub place: Place,
+    /// The expression.
+    pub expression: Expression,
 }
 
 /// What stands where an assignment, `++` or `--` wants a target: any expression.
@@ -115,7 +125,7 @@ pub enum Statement {
     /// A simple statement.
     Simple(Simple),
     /// `printf`, with its place, its format, escapes read, with its place, and its arguments.
-    Print(Place, Place, Bytes, Vec<Expression>),
+    Print(Place, Place, Bytes, Vec<Argument>),
     /// `if` without `else`.
     If(Expression, Box<Statement>),
     /// `if` with `else`.
@@ -136,6 +146,15 @@ pub enum Statement {
     ReturnValue(Place, Expression),
 }
 
+/// A parameter of a function.
+#[derive(Drop)]
+pub struct Parameter {
+    /// Its name.
+    pub name: Name,
+    /// What it takes: an array where `[]` stands behind its name.
+    pub takes: Takes,
+}
+
 /// A function.
 #[derive(Drop)]
 pub struct Function {
@@ -143,8 +162,8 @@ pub struct Function {
     pub gives: Gives,
     /// Its name.
     pub name: Name,
-    /// The names of its parameters.
-    pub parameters: Listed<Name>,
+    /// Its parameters.
+    pub parameters: Listed<Parameter>,
     /// The statements of its body.
     pub body: Vec<Statement>,
 }

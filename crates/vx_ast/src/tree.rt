@@ -1,10 +1,10 @@
 // The tree of a program in which every name stands with its declaration. Contracts see it without pointers,
 // by specs/View.antt; what it does is specs/Meaning.antt.
 //
-// Scalars of a function are numbered from 0: its parameters first, then the others in the order of the source.
-// Arrays are numbered as a function sees them: the globals in the order of the source, a global scalar being an
-// array of one word, then the function's own arrays in the order of the source. Functions are numbered from 0 in
-// the order of the source.
+// Scalars of a function are numbered from 0: its parameters that are numbers first, then the others in the order of
+// the source. Arrays are numbered as a function sees them: the globals in the order of the source, a global scalar
+// being an array of one word, then its array parameters, then its own arrays, each in the order of the source.
+// Functions are numbered from 0 in the order of the source.
 
 use vx_base::listed::Listed;
 
@@ -81,11 +81,21 @@ pub enum Expression {
     /// `?:`: a test, and the operand that is evaluated where it is not 0, and where it is 0.
     Choice(Box<Expression>, Box<Expression>, Box<Expression>),
     /// A call of a function of the program, with its arguments.
-    Call(u32, Vec<Expression>),
+    Call(u32, Vec<Argument>),
     /// `read_int()`: the next number of the input.
     ReadInt,
     /// `more_input()`: 1 where the input has a number left, else 0.
     MoreInput,
+}
+
+/// An argument of a call.
+#[cycle(expression)]
+#[derive(Drop)]
+pub enum Argument {
+    /// The value of an expression.
+    Number(Expression),
+    /// An array, by its number.
+    Array(u32),
 }
 
 /// What an assignment changes.
@@ -179,6 +189,15 @@ pub enum Gives {
     Nothing,
 }
 
+/// What a parameter takes.
+#[derive(Clone, Copy)]
+pub enum Takes {
+    /// A number.
+    Number,
+    /// An array, whose size goes with it.
+    Array,
+}
+
 /// A function.
 #[derive(Drop)]
 pub struct Function {
@@ -186,9 +205,11 @@ pub struct Function {
     pub name: Listed<u8>,
     /// What it gives back.
     pub gives: Gives,
-    /// How many parameters it has. They are its first scalars.
+    /// How many of its parameters are numbers. They are its first scalars.
     pub parameters: u32,
-    /// How many scalars it has, its parameters included.
+    /// What each of its parameters takes, in the order of the source. Those that take an array are its first arrays.
+    pub takes: Listed<Takes>,
+    /// How many scalars it has, its parameters that are numbers included.
     pub scalars: u32,
     /// The words of each of its own arrays.
     pub arrays: Listed<u32>,
