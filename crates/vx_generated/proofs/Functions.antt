@@ -2,15 +2,17 @@
 use Rattle.std.proofs.Common.{◌≡◌, ℕ, suc, ◌+◌, ◌*◌, ◌≤◌, max, false, List, [], ◌∷◌, ◌++◌, length, codes, Some, refl, sym, ap, subst, ◌∙◌, arith}
 use Rattle.std.specs.Prelude.{decimal}
 use Rattle.vx_ast.specs.declared.tree.Gives.TheVariants.{Int as GivesInt}
+use Rattle.vx_ast.specs.declared.tree.Takes.TheVariants.{Number as TakesNumber}
 use Rattle.vx_ast.specs.declared.token.Mark.TheVariants as marks
 use Rattle.vx_ast.specs.declared.token.TokenKind.TheVariants as kinds
 use Rattle.vx_ast.specs.declared.token.Token.{Token}
 use Rattle.vx_ast.specs.declared.syntax.Place.{Place}
 use Rattle.vx_ast.specs.declared.syntax.Name.{Name}
+use Rattle.vx_ast.specs.declared.syntax.Parameter.{Parameter}
 use Rattle.vx_ast.specs.declared.names.FileName.{FileName}
 use Rattle.vx_ast.specs.Tree.{Row}
 use Rattle.vx_ast.specs.Syntax as syntax
-use Rattle.vx_ast.specs.Scopes.{Environment, Known, look, predeclared, with_parameters, with_scalar}
+use Rattle.vx_ast.specs.Scopes.{Environment, Known, look, predeclared, takes_of, with_parameters, with_scalar}
 use Rattle.vx_ast.specs.Scopes as scopes
 use Rattle.vx_ast.specs.Faults.{function_faults, parameter_faults, code_faults, declares}
 use Rattle.vx_ast.specs.Resolved.{function_in, code_in}
@@ -95,8 +97,9 @@ function_bodied above others ls bytes p place place2 rest =
 
 -- behind its name
 
-abbrev pub parameter_names : (p q : Place) → List Name
-parameter_names p q = record { bytes = codes "p"; place = p } ∷ record { bytes = codes "q"; place = q } ∷ []
+abbrev pub two_parameters : (p q : Place) → List Parameter
+two_parameters p q =
+    (record { name = record { bytes = codes "p"; place = p }; takes = TakesNumber }) ∷ (record { name = record { bytes = codes "q"; place = q }; takes = TakesNumber }) ∷ []
 
 abbrev pub parameters_front : List Part
 parameters_front = mark marks.OpenParenthesis ∷ A Parameters ∷ mark marks.CloseParenthesis ∷ []
@@ -113,7 +116,7 @@ pub record NamedFunction (name : Token) (n : ℕ) (ts rest : List Token) (e f : 
   pub name_is : function.name ≡ name_of name
   pub p : Place
   pub q : Place
-  pub parameters_are : function.parameters ≡ parameter_names p q
+  pub parameters_are : function.parameters ≡ two_parameters p q
   pub leads : Leads n function.body e f
 
 deep_function : (left e : ℕ) → e ≤ max 0 12 → max left (0 + e) ≤ max left 12
@@ -127,7 +130,7 @@ named_function name bytes place n ts rest e f s = record {
   enters = refl;
   is = joins parameters_front (A Block ∷ []) (tokens_of bytes place parameter_bits ++ ts) ts rest _ _ (got (parse 60 parameters_front (tokens_of bytes place parameter_bits ++ ts)) tt).is (enters Block s.inner [] ts rest rest s.row _ s.enters s.is phrases.nothing);
   depth = λ left. deep_function left (depth_behind 0 (Node Block s.row)) (s.depth 0);
-  function = record { gives = GivesInt; name = name_of name; parameters = parameter_names _ _; body = block_of (Node Block s.row) };
+  function = record { gives = GivesInt; name = name_of name; parameters = two_parameters _ _; body = block_of (Node Block s.row) };
   defines = refl;
   gives = refl;
   name_is = refl;
@@ -142,18 +145,19 @@ named_function name bytes place n ts rest e f s = record {
 pub record Good (others : List FileName) (j : ℕ) (f : syntax.Function) : Type 0 where
   pub gives : f.gives ≡ GivesInt
   pub name : f.name.bytes ≡ function_name j
+  pub takes : takes_of f.parameters ≡ TakesNumber ∷ TakesNumber ∷ []
   pub parameters : length f.parameters ≡ 2
   pub faults : function_faults (in_function (suc j) (array_name ∷ others) [] 0) f ≡ []
   pub nodes : function_nodes (function_in (in_function (suc j) (array_name ∷ others) [] 0) f) ≤ 4000
   pub arrays : (function_in (in_function (suc j) (array_name ∷ others) [] 0) f).arrays ≡ []
   pub formats : formats_of (function_in (in_function (suc j) (array_name ∷ others) [] 0) f).body ≡ []
 
-with_both : (above : ℕ) (names : List FileName) (p q : Place) → with_parameters (parameter_names p q) (in_function above names [] 0) ≡ in_function above names parameters 2
+with_both : (above : ℕ) (names : List FileName) (p q : Place) → with_parameters (two_parameters p q) (in_function above names [] 0) ≡ in_function above names parameters 2
 with_both above names p q =
     ap (λ (e : Environment). with_scalar (record { bytes = codes "q"; place = q }) e) (adds above names [] 0 (record { bytes = codes "p"; place = p }) (λ file. refl))
     ∙ adds above names (local (codes "p") 0 ∷ []) 1 (record { bytes = codes "q"; place = q }) (λ file. refl)
 
-no_faults : (above : ℕ) (names : List FileName) (p q : Place) → parameter_faults (in_function above names [] 0) (parameter_names p q) ≡ []
+no_faults : (above : ℕ) (names : List FileName) (p q : Place) → parameter_faults (in_function above names [] 0) (two_parameters p q) ≡ []
 unfolding predeclared
 no_faults above names p q =
     both_none (declares (in_function above names [] 0) (record { bytes = codes "p"; place = p })) _ (declares_none above names [] 0 (record { bytes = codes "p"; place = p }) refl (λ file. refl))
@@ -162,16 +166,17 @@ no_faults above names p q =
     ∙ declares_none above names (local (codes "p") 0 ∷ []) 1 (record { bytes = codes "q"; place = q }) refl (λ file. refl)) refl)
 
 good_at : (others : List FileName) (j n : ℕ) (name : Name) (p q : Place) (body : syntax.Code) → name.bytes ≡ function_name j → n + 3 ≤ 4000 → Leads n body (in_function (suc j) (array_name ∷ others) parameters 2) (in_function (suc j) (array_name ∷ others) all_locals 7)
-    → Good others j (record { gives = GivesInt; name = name; parameters = parameter_names p q; body = body })
+    → Good others j (record { gives = GivesInt; name = name; parameters = two_parameters p q; body = body })
 good_at others j n name p q body is few s =
     let names : List FileName = array_name ∷ others in
-    let start : Environment = with_parameters (parameter_names p q) (in_function (suc j) names [] 0) in
+    let start : Environment = with_parameters (two_parameters p q) (in_function (suc j) names [] 0) in
     let w : in_function (suc j) names parameters 2 ≡ start = sym (with_both (suc j) names p q) in
     record {
       gives = refl;
       name = is;
+      takes = refl;
       parameters = refl;
-      faults = both_none (parameter_faults (in_function (suc j) names [] 0) (parameter_names p q)) (code_faults GivesInt false start body) (no_faults (suc j) names p q) (subst (λ (e : Environment). code_faults GivesInt false e body ≡ []) w s.faults);
+      faults = both_none (parameter_faults (in_function (suc j) names [] 0) (two_parameters p q)) (code_faults GivesInt false start body) (no_faults (suc j) names p q) (subst (λ (e : Environment). code_faults GivesInt false e body ≡ []) w s.faults);
       nodes = let x : code_nodes (code_in start body) ≤ n = subst (λ (e : Environment). code_nodes (code_in e body) ≤ n) w s.nodes in omega (arith, x, few);
       arrays = ap (λ (e : Environment). (scopes.behind body e).sizes) (sym w) ∙ ap (λ (e : Environment). e.sizes) s.leads;
       formats = subst (λ (e : Environment). formats_of (code_in e body) ≡ []) w s.formats;
@@ -180,6 +185,6 @@ good_at others j n name p q body is few s =
 pub is_good : (others : List FileName) (j n : ℕ) (name : Token) (ts rest : List Token) → (name_of name).bytes ≡ function_name j → n + 3 ≤ 4000
     → (s : NamedFunction name n ts rest (in_function (suc j) (array_name ∷ others) parameters 2) (in_function (suc j) (array_name ∷ others) all_locals 7)) → Good others j s.function
 is_good others j n name ts rest is few s =
-    let here : Good others j (record { gives = GivesInt; name = name_of name; parameters = parameter_names s.p s.q; body = s.function.body }) = good_at others j n (name_of name) s.p s.q s.function.body is few s.leads in
-    let same : record { gives = GivesInt; name = name_of name; parameters = parameter_names s.p s.q; body = s.function.body } ≡ s.function = λ i. record { gives = (sym s.gives) i; name = (sym s.name_is) i; parameters = (sym s.parameters_are) i; body = s.function.body } in
+    let here : Good others j (record { gives = GivesInt; name = name_of name; parameters = two_parameters s.p s.q; body = s.function.body }) = good_at others j n (name_of name) s.p s.q s.function.body is few s.leads in
+    let same : record { gives = GivesInt; name = name_of name; parameters = two_parameters s.p s.q; body = s.function.body } ≡ s.function = λ i. record { gives = (sym s.gives) i; name = (sym s.name_is) i; parameters = (sym s.parameters_are) i; body = s.function.body } in
     subst (λ (f : syntax.Function). Good others j f) same here

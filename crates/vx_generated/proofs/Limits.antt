@@ -10,7 +10,7 @@ use Rattle.vx_ast.specs.declared.syntax.Place.{Place}
 use Rattle.vx_ast.specs.Tokens.{token_at}
 use Rattle.vx_ast.specs.Tree as tree
 use Rattle.vx_ast.specs.Syntax as syntax
-use Rattle.vx_ast.specs.Scopes.{Environment, names_of, globals_of, at_function}
+use Rattle.vx_ast.specs.Scopes.{Environment, names_of, takes_of, takes_from, globals_of, at_function}
 use Rattle.vx_ast.specs.Resolved.{function_in, functions_from, resolved}
 use Rattle.vx_ast.specs.Accepted.{Over, over, or_else, at_most, function_nodes, formats_of, global_words, limit_of}
 use Rattle.vx_ast.specs.Phrases as phrases
@@ -19,17 +19,17 @@ use Rattle.vx_ast.specs.Derivations.{place_of, depth_behind, row_depth}
 use Rattle.vx_ast.specs.Reads.{Reads, Parses}
 use Rattle.vx_gen.specs.Program.{program_text, function_count}
 use Rattle.vx_gen.proofs.Length.{program_length}
-use Rattle.vx_generated.proofs.Scoped.{in_function, array_name}
+use Rattle.vx_generated.proofs.Scoped.{in_function, takes_numbers, array_name}
 use Rattle.vx_generated.proofs.Parts.{enters}
 use Rattle.vx_generated.proofs.Functions.{Good}
 use Rattle.vx_generated.proofs.Names.{file_names}
 use Rattle.vx_generated.proofs.Mains.{GoodMain}
 use Rattle.vx_generated.proofs.Sources.{DrawnSource, source_drawn, all_tokens}
 use Rattle.vx_generated.proofs.Programs.{Listing, Whole, source_whole}
-use Rattle.vx_generated.proofs.Suited.{program_with, faultless, names_of_all, globals_of_all}
+use Rattle.vx_generated.proofs.Suited.{program_with, faultless, names_of_all, takes_of_all, globals_of_all}
 
 record Fits (f : tree.Function) : Type 0 where
-  parameters : f.parameters ≤ 8
+  parameters : length f.takes ≤ 8
   nodes : function_nodes f ≤ 4000
   arrays : sum f.arrays ≤ 8192
   formats : over 8 4096 (map (λ (t : List ℕ). length t) (formats_of f.body)) ≡ None
@@ -62,7 +62,7 @@ or_none a b h k = rw h k
 within : (p : tree.Program) → AllFit p.functions → length p.functions ≤ 256 → sum (map global_words p.globals) ≤ 262144 → limit_of p ≡ None
 within p all few words =
     or_none (over 3 256 (length p.functions ∷ [])) _ (over_next 3 256 (length p.functions) [] few refl)
-    (or_none (over 4 8 (map (λ f. f.parameters) p.functions)) _ (over_map 4 8 (λ (f : tree.Function). f.parameters) (λ f k. k.parameters) p.functions all)
+    (or_none (over 4 8 (map (λ f. length f.takes) p.functions)) _ (over_map 4 8 (λ (f : tree.Function). length f.takes) (λ f k. k.parameters) p.functions all)
     (or_none (over 5 4000 (map function_nodes p.functions)) _ (over_map 5 4000 function_nodes (λ f k. k.nodes) p.functions all)
     (or_none (over 6 8192 (map (λ f. sum f.arrays) p.functions)) _ (over_map 6 8192 (λ (f : tree.Function). sum f.arrays) (λ f k. k.arrays) p.functions all)
     (or_none (over 7 262144 (sum (map global_words p.globals) ∷ [])) _ (over_next 7 262144 (sum (map global_words p.globals)) [] words refl)
@@ -73,7 +73,7 @@ no_words l h = rw h (omega arith)
 
 function_fits : (n j : ℕ) (f : syntax.Function) → Good (file_names 0 n) j f → Fits (function_in (in_function (suc j) (array_name ∷ file_names 0 n) [] 0) f)
 function_fits n j f g = record {
-  parameters = let two : length f.parameters ≡ 2 = g.parameters in omega (arith, two);
+  parameters = let two : length (takes_of f.parameters) ≡ 2 = ap (λ ks. length ks) g.takes in omega (arith, two);
   nodes = g.nodes;
   arrays = no_words _ g.arrays;
   formats = ap (λ (l : List (List ℕ)). over 8 4096 (map (λ (t : List ℕ). length t) l)) g.formats;
@@ -81,20 +81,20 @@ function_fits n j f g = record {
 
 main_fits : (n j : ℕ) (f : syntax.Function) → GoodMain (file_names 0 n) j f → Fits (function_in (in_function (suc j) (array_name ∷ file_names 0 n) [] 0) f)
 main_fits n j f g = record {
-  parameters = let none : length f.parameters ≡ 0 = ap (λ ps. length ps) g.parameters in omega (arith, none);
+  parameters = let none : length (takes_of f.parameters) ≡ 0 = ap (λ ps. length (takes_of ps)) g.parameters in omega (arith, none);
   nodes = g.nodes;
   arrays = no_words _ g.arrays;
   formats = g.formats;
 }
 
-all_fit : (p : syntax.Program) (n j k above : ℕ) (ds : List syntax.Definition) → names_of p ≡ array_name ∷ file_names 0 n → length (globals_of p.definitions) ≡ 1 → above ≡ suc j → Listing (file_names 0 n) j k ds
+all_fit : (p : syntax.Program) (n j k above : ℕ) (ds : List syntax.Definition) → names_of p ≡ array_name ∷ file_names 0 n → takes_from p.definitions ≡ takes_numbers (array_name ∷ file_names 0 n) → length (globals_of p.definitions) ≡ 1 → above ≡ suc j → Listing (file_names 0 n) j k ds
     → AllFit (functions_from p above ds)
-all_fit p n j m above es names one is (Listing.main_alone {f = f} g) =
-    let here : in_function (suc j) (array_name ∷ file_names 0 n) [] 0 ≡ at_function p above = sym (λ i. record { depth = 1; locals = []; names = names i; above = is i; scalars = 0; arrays = one i; sizes = [] }) in
+all_fit p n j m above es names takes one is (Listing.main_alone {f = f} g) =
+    let here : in_function (suc j) (array_name ∷ file_names 0 n) [] 0 ≡ at_function p above = sym (λ i. record { depth = 1; locals = []; names = names i; above = is i; takes = takes i; scalars = 0; arrays = one i; sizes = [] }) in
     AllFit.one_fits (subst (λ (e : Environment). Fits (function_in e f)) here (main_fits n j f g)) AllFit.none_left
-all_fit p n j m above es names one is (Listing.one_more {k = k} {f = f} {ds = ds} g more) =
-    let here : in_function (suc j) (array_name ∷ file_names 0 n) [] 0 ≡ at_function p above = sym (λ i. record { depth = 1; locals = []; names = names i; above = is i; scalars = 0; arrays = one i; sizes = [] }) in
-    AllFit.one_fits (subst (λ (e : Environment). Fits (function_in e f)) here (function_fits n j f g)) (all_fit p n (j + 1) k (above + 1) ds names one (omega (arith, is)) more)
+all_fit p n j m above es names takes one is (Listing.one_more {k = k} {f = f} {ds = ds} g more) =
+    let here : in_function (suc j) (array_name ∷ file_names 0 n) [] 0 ≡ at_function p above = sym (λ i. record { depth = 1; locals = []; names = names i; above = is i; takes = takes i; scalars = 0; arrays = one i; sizes = [] }) in
+    AllFit.one_fits (subst (λ (e : Environment). Fits (function_in e f)) here (function_fits n j f g)) (all_fit p n (j + 1) k (above + 1) ds names takes one (omega (arith, is)) more)
 
 functions_count : (p : syntax.Program) (n j k above : ℕ) (ds : List syntax.Definition) → Listing (file_names 0 n) j k ds → length (functions_from p above ds) ≡ suc k
 functions_count p n j m above es (Listing.main_alone {f = f} g) = refl
@@ -111,7 +111,7 @@ kept place size_place end n ds few l =
     let none : length (globals_of ds) ≡ 0 = let e : suc (length (globals_of ds)) ≡ 1 = one in omega (arith, e) in
     let words : sum (map global_words (ArrayGlobal 16 ∷ globals_of ds)) ≤ 262144 = one_global (globals_of ds) none in
     let count : length (functions_from p 1 ds) ≡ suc n = functions_count p n 0 n 1 ds l in
-    within (resolved p) (all_fit p n 0 n 1 ds (names_of_all place size_place end n ds l) one refl l) (omega (arith, count, few)) words
+    within (resolved p) (all_fit p n 0 n 1 ds (names_of_all place size_place end n ds l) (takes_of_all place size_place end n ds l) one refl l) (omega (arith, count, few)) words
 
 -- the whole
 

@@ -1,23 +1,28 @@
 -- The function main of a generated source.
 use Rattle.std.proofs.Common.{◌≡◌, ℕ, zero, suc, ◌+◌, ◌*◌, ◌<◌, ◌≤◌, max, pos, false, List, [], ◌∷◌, ◌++◌, length, map, codes, Option, Some, None, refl, sym, ap, subst, arith}
+use Rattle.std.specs.Prelude.{decimal}
 use Rattle.vx_ast.specs.declared.tree.Gives.TheVariants.{Int as GivesInt}
 use Rattle.vx_ast.specs.declared.token.Mark.TheVariants as marks
 use Rattle.vx_ast.specs.declared.token.Token.{Token}
+use Rattle.vx_ast.specs.declared.tree.Takes.{Takes}
+use Rattle.vx_ast.specs.declared.syntax.Place.{Place}
 use Rattle.vx_ast.specs.declared.syntax.Name.{Name}
 use Rattle.vx_ast.specs.declared.names.Named.{Named}
 use Rattle.vx_ast.specs.declared.names.Named.TheVariants.{Function as AFunctionNamed}
 use Rattle.vx_ast.specs.declared.names.FileName.{FileName}
+use Rattle.vx_ast.specs.Tokens.{line_at, column_at}
 use Rattle.vx_ast.specs.Tree.{One, Row}
 use Rattle.vx_ast.specs.Tree as tree
 use Rattle.vx_ast.specs.Syntax as syntax
 use Rattle.vx_ast.specs.Scopes as scopes
-use Rattle.vx_ast.specs.Scopes.{Environment}
+use Rattle.vx_ast.specs.Scopes.{Environment, wanted_by}
 use Rattle.vx_ast.specs.Faults.{called, code_faults, function_faults}
-use Rattle.vx_ast.specs.Resolved.{call_named, code_in, function_in}
+use Rattle.vx_ast.specs.Resolved.{call_named, row_in, code_in, function_in}
 use Rattle.vx_ast.specs.Accepted.{nodes_of, code_nodes, formats_of, function_nodes, over}
 use Rattle.vx_ast.specs.Phrases as phrases
 use Rattle.vx_ast.specs.Phrases.{Part, A, mark, Derivation, Leaf, Node, NoMore, Then, Is, parts_of, Statement, Items, Block, AfterName, Parameters}
-use Rattle.vx_ast.specs.Derivations.{name_of, expression_of, behind, named, arguments_of, arguments_in, print_of, code_of, statement_of, if_of, block_of, body_of, all_of, test_of, parameters_of, after_name_of, is_begun, are_begun, depth_behind, row_depth, operator_depth, choice_depth}
+use Rattle.vx_ast.specs.Derivations.{name_of, expression_of, behind, named, arguments_of, arguments_in, first_place, print_of, code_of, statement_of, if_of, block_of, body_of, all_of, test_of, parameters_of, after_name_of, is_begun, are_begun, depth_behind, row_depth, operator_depth, choice_depth}
+use Rattle.vx_generated.proofs.Numbers.{first_digit, other_digits}
 use Rattle.vx_generated.proofs.Forms.{Bit, opening, closing, word_void, space, tokens_of, text_of, word_return, digit, semicolon, line_end}
 use Rattle.vx_generated.proofs.Parser.{parse, got}
 use Rattle.vx_generated.proofs.Fine.{both_none}
@@ -25,7 +30,7 @@ use Rattle.vx_generated.proofs.Parts.{parts_at, enters, a_mark}
 use Rattle.vx_generated.proofs.Statements.{onto, joins, one_statement}
 use Rattle.vx_generated.proofs.Functions.{function_name, parameters_front}
 use Rattle.vx_generated.proofs.Sources.{call_bits, calls_tokens, calls_text, main_end}
-use Rattle.vx_generated.proofs.Scoped.{in_function, array_name}
+use Rattle.vx_generated.proofs.Scoped.{in_function, array_name, OnlyNumbers, wants_numbers, numbers_fine, numbers_handed}
 use Rattle.vx_generated.proofs.Names.{file_names, main_knows}
 
 -- lines of main, which leave its environment as it is
@@ -68,18 +73,37 @@ call_nodes o j row h few = subst (λ (q : Option Named). nodes_of (call_named q 
 deep_call : (left e : ℕ) → e ≤ max 2 11 → max left (0 + e) ≤ max left 11
 deep_call left e k = omega (arith, k)
 
-call_calling : (bytes : List ℕ) (j place n : ℕ) (ts rest : List Token) (e : Environment) → scopes.named (function_name j) e ≡ Some (AFunctionNamed j GivesInt 2) → Calling n ts rest e → Calling (4 + n) (tokens_of bytes place (call_bits j) ++ ts) rest e
-unfolding parts_of expression_of behind named arguments_of arguments_in code_of print_of statement_of if_of all_of is_begun are_begun depth_behind row_depth operator_depth choice_depth
-call_calling bytes j place n ts rest e known s = record {
+-- its numbers, and where they stand
+
+abbrev spot : (bytes : List ℕ) (place : ℕ) → Place
+spot bytes place = record { line = line_at bytes place; column = column_at bytes place }
+
+abbrev first_number : (j place : ℕ) → ℕ
+first_number j place = place + 6 + 1 + 6 + 1 + 1 + length (102 ∷ decimal j) + 1
+
+abbrev second_number : (j place : ℕ) → ℕ
+second_number j place = first_number j place + length (first_digit (j + 1) ∷ other_digits (j + 1)) + 1 + 1
+
+abbrev two_numbers : (bytes : List ℕ) (j place : ℕ) → syntax.Phrase Row
+two_numbers bytes j place =
+    syntax.Then (spot bytes (first_number j place)) (syntax.Number (pos (j + 1))) (syntax.Then (spot bytes (second_number j place)) (syntax.Number (pos (j + 2))) syntax.NoMore)
+
+two_nodes : (e : Environment) (ks : List Takes) (bytes : List ℕ) (j place : ℕ) → OnlyNumbers ks → nodes_of (row_in e ks (two_numbers bytes j place)) ≤ 2
+two_nodes e ks bytes j place h = subst (λ (r : tree.Tree Row). nodes_of r ≤ 2) (sym (numbers_handed e ks (two_numbers bytes j place) h)) (omega arith)
+
+call_calling : (bytes : List ℕ) (j place n : ℕ) (ts rest : List Token) (e : Environment) → ((o : Option Named) → OnlyNumbers (wanted_by e o)) → scopes.named (function_name j) e ≡ Some (AFunctionNamed j GivesInt 2) → Calling n ts rest e → Calling (4 + n) (tokens_of bytes place (call_bits j) ++ ts) rest e
+unfolding parts_of expression_of behind named arguments_of arguments_in first_place code_of print_of statement_of if_of all_of is_begun are_begun depth_behind row_depth operator_depth choice_depth
+call_calling bytes j place n ts rest e numbers known s = record {
   row = onto (got (parse 200 (A Statement ∷ []) (tokens_of bytes place (call_bits j) ++ ts)) tt).derivation (Then (Node Items s.row) NoMore);
   inner = one_statement;
   enters = refl;
   is = joins (A Statement ∷ []) (A Items ∷ []) (tokens_of bytes place (call_bits j) ++ ts) ts rest _ _ (got (parse 200 (A Statement ∷ []) (tokens_of bytes place (call_bits j) ++ ts)) tt).is (enters Items s.inner [] ts rest rest s.row _ s.enters s.is phrases.nothing);
   depth = λ left. deep_call left (depth_behind 2 (Node Items s.row)) (s.depth 2);
-  faults = both_none _ (code_faults GivesInt false e (all_of (Node Items s.row))) (both_none _ [] (both_none _ [] (called_none (record { bytes = function_name j; place = _ }) (scopes.named (function_name j) e) j known) refl) refl) s.faults;
+  faults = both_none _ (code_faults GivesInt false e (all_of (Node Items s.row))) (both_none _ [] (both_none _ _ (called_none (record { bytes = function_name j; place = _ }) (scopes.named (function_name j) e) j known) (numbers_fine e (wanted_by e (scopes.named (function_name j) e)) (two_numbers bytes j place) (numbers (scopes.named (function_name j) e)))) refl) s.faults;
   keeps = s.keeps;
   nodes =
-      let x : nodes_of (call_named (scopes.named (function_name j) e) (tree.Then (tree.Literal (pos (j + 1))) (tree.Then (tree.Literal (pos (j + 2))) tree.NoMore))) ≤ 3 = call_nodes (scopes.named (function_name j) e) j _ known (omega arith) in
+      let x : nodes_of (call_named (scopes.named (function_name j) e) (row_in e (wanted_by e (scopes.named (function_name j) e)) (two_numbers bytes j place))) ≤ 3 =
+      call_nodes (scopes.named (function_name j) e) j _ known (two_nodes e (wanted_by e (scopes.named (function_name j) e)) bytes j place (numbers (scopes.named (function_name j) e))) in
       let y : code_nodes (code_in e (all_of (Node Items s.row))) ≤ n = s.nodes in
       sum _ _ n x y;
   formats = s.formats;
@@ -100,13 +124,13 @@ calling_more {n = n} {e = e} m h s = record {
   nodes = let x : code_nodes (code_in e (all_of (Node Items s.row))) ≤ n = s.nodes in omega (arith, h, x);
 }
 
-calls_calling : (j k : ℕ) (bytes : List ℕ) (place n : ℕ) (ts rest : List Token) (e : Environment) → ((i : ℕ) → j ≤ i → i < j + k → scopes.named (function_name i) e ≡ Some (AFunctionNamed i GivesInt 2))
+calls_calling : (j k : ℕ) (bytes : List ℕ) (place n : ℕ) (ts rest : List Token) (e : Environment) → ((o : Option Named) → OnlyNumbers (wanted_by e o)) → ((i : ℕ) → j ≤ i → i < j + k → scopes.named (function_name i) e ≡ Some (AFunctionNamed i GivesInt 2))
     → Calling n ts rest e → Calling (4 * k + n) (calls_tokens j k bytes place ts) rest e
-calls_calling j zero bytes place n ts rest e known s = calling_more (4 * 0 + n) (omega arith) s
-calls_calling j (suc k) bytes place n ts rest e known s =
+calls_calling j zero bytes place n ts rest e numbers known s = calling_more (4 * 0 + n) (omega arith) s
+calls_calling j (suc k) bytes place n ts rest e numbers known s =
     let next : ℕ = place + length (text_of (call_bits j)) in
-    let more : Calling (4 * k + n) (calls_tokens (j + 1) k bytes next ts) rest e = calls_calling (j + 1) k bytes next n ts rest e (λ i h l. known i (omega (arith, h)) (omega (arith, l))) s in
-    let this : Calling (4 + (4 * k + n)) (calls_tokens j (suc k) bytes place ts) rest e = call_calling bytes j place (4 * k + n) (calls_tokens (j + 1) k bytes next ts) rest e (known j (omega arith) (omega arith)) more in
+    let more : Calling (4 * k + n) (calls_tokens (j + 1) k bytes next ts) rest e = calls_calling (j + 1) k bytes next n ts rest e numbers (λ i h l. known i (omega (arith, h)) (omega (arith, l))) s in
+    let this : Calling (4 + (4 * k + n)) (calls_tokens j (suc k) bytes place ts) rest e = call_calling bytes j place (4 * k + n) (calls_tokens (j + 1) k bytes next ts) rest e numbers (known j (omega arith) (omega arith)) more in
     calling_more (4 * suc k + n) (omega arith) this
 
 -- behind the name of main
@@ -170,5 +194,5 @@ main_named k name bytes place p place2 rest is few =
     let e : Environment = in_function (suc k) (array_name ∷ file_names 0 k) [] 0 in
     let back : Calling 2 (tokens_of bytes (place2 + length (calls_text 0 k)) main_end ++ rest) (a_mark bytes marks.CloseBrace _ ∷ rest) e = zero_calling bytes (place2 + length (calls_text 0 k)) _ rest e in
     let all : Calling (4 * k + 2) (calls_tokens 0 k bytes place2 (tokens_of bytes (place2 + length (calls_text 0 k)) main_end ++ rest)) (a_mark bytes marks.CloseBrace _ ∷ rest) e =
-    calls_calling 0 k bytes place2 2 (tokens_of bytes (place2 + length (calls_text 0 k)) main_end ++ rest) (a_mark bytes marks.CloseBrace _ ∷ rest) e (λ i h l. main_knows i k (omega (arith, l)) (omega (arith, few))) back in
+    calls_calling 0 k bytes place2 2 (tokens_of bytes (place2 + length (calls_text 0 k)) main_end ++ rest) (a_mark bytes marks.CloseBrace _ ∷ rest) e (wants_numbers (suc k) (array_name ∷ file_names 0 k) [] 0) (λ i h l. main_knows i k (omega (arith, l)) (omega (arith, few))) back in
     named_main (file_names 0 k) k name bytes place p _ (4 * k + 2) _ rest is (omega (arith, few)) all

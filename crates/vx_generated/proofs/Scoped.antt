@@ -1,23 +1,36 @@
 -- What is known in a generated function, and code that leads from one such environment to another.
-use Rattle.std.proofs.Common.{◌≡◌, ℕ, zero, suc, ◌+◌, ◌≤◌, Bool, true, false, cond, List, [], ◌∷◌, ◌++◌, codes, Option, Some, refl, sym, ap, subst, ◌∙◌, arith}
+use Rattle.std.proofs.Common.{◌≡◌, ℕ, zero, suc, ◌+◌, ◌≤◌, Bool, true, false, cond, List, [], ◌∷◌, ◌++◌, replicate, slice_index_or, codes, Option, Some, None, refl, sym, ap, subst, ◌∙◌, arith}
 use Rattle.vx_ast.specs.declared.tree.Gives.TheVariants.{Int as GivesInt}
+use Rattle.vx_ast.specs.declared.tree.Takes.{Takes}
+use Rattle.vx_ast.specs.declared.tree.Takes.TheVariants.{Number as TakesNumber, Array as TakesArray}
 use Rattle.vx_ast.specs.declared.syntax.Place.{Place}
 use Rattle.vx_ast.specs.declared.syntax.Name.{Name}
-use Rattle.vx_ast.specs.declared.names.Named.TheVariants.{Scalar as AScalar, Array as AnArray, ReadInt as Reads, MoreInput as AsksMore, Print as Prints}
+use Rattle.vx_ast.specs.declared.names.Named.{Named}
+use Rattle.vx_ast.specs.declared.names.Named.TheVariants.{Scalar as AScalar, Global as AGlobal, Array as AnArray, Function as AFunctionNamed, ReadInt as Reads, MoreInput as AsksMore, Print as Prints}
 use Rattle.vx_ast.specs.declared.names.Meant.{Meant}
 use Rattle.vx_ast.specs.declared.names.FileName.{FileName}
-use Rattle.vx_ast.specs.Tree.{One}
+use Rattle.vx_ast.specs.Tree.{One, Row}
+use Rattle.vx_ast.specs.Tree as tree
 use Rattle.vx_ast.specs.Syntax as syntax
-use Rattle.vx_ast.specs.Scopes.{Known, Environment, find, same_name, predeclared, is_predeclared, in_file, known_of, look, is_at, declared, with_scalar, behind}
-use Rattle.vx_ast.specs.Faults.{fault_if, phrase_faults, declares, code_faults}
-use Rattle.vx_ast.specs.Resolved.{tree_in, code_in}
+use Rattle.vx_ast.specs.Scopes.{Known, Environment, find, same_name, predeclared, is_predeclared, in_file, known_of, look, wanted_by, is_at, declared, with_scalar, behind}
+use Rattle.vx_ast.specs.Faults.{fault_if, phrase_faults, row_faults, declares, code_faults}
+use Rattle.vx_ast.specs.Resolved.{tree_in, row_in, code_in}
 use Rattle.vx_ast.specs.Accepted.{nodes_of, code_nodes, formats_of}
 use Rattle.vx_generated.proofs.Forms.{Variable, InA, InB, InC, InD, byte_of}
 use Rattle.vx_generated.proofs.Fine.{IsScalar, Knows, Fine, both_none}
 
+-- what the functions of a file take, each parameter of which is a number
+abbrev pub takes_before : Named → List (List Takes) → List (List Takes)
+takes_before (AFunctionNamed f gives count) rest = replicate count TakesNumber ∷ rest
+takes_before n rest = rest
+
+abbrev pub takes_numbers : List FileName → List (List Takes)
+takes_numbers [] = []
+takes_numbers (n ∷ ns) = takes_before n.named (takes_numbers ns)
+
 -- in a function of the file with these names
 abbrev pub in_function : (above : ℕ) (names : List FileName) (locals : List Known) (scalars : ℕ) → Environment
-in_function above names locals scalars = record { depth = 1; locals = locals; names = names; above = above; scalars = scalars; arrays = 1; sizes = [] }
+in_function above names locals scalars = record { depth = 1; locals = locals; names = names; above = above; takes = takes_numbers names; scalars = scalars; arrays = 1; sizes = [] }
 
 abbrev pub local : List ℕ → ℕ → Known
 local x n = record { name = x; meant = record { depth = 1; named = AScalar n } }
@@ -142,3 +155,59 @@ knows_all above others = record {
   of_variable InB = record { number = 4; is = refl }
   of_variable InC = record { number = 5; is = refl }
   of_variable InD = record { number = 6; is = refl }
+
+-- a call in it hands over numbers
+
+abbrev pub OnlyNumbers : List Takes → Type 0
+OnlyNumbers [] = Unit {0}
+OnlyNumbers (TakesNumber ∷ ks) = OnlyNumbers ks
+OnlyNumbers (TakesArray ∷ ks) = ⊥
+
+so_many_numbers : (n : ℕ) → OnlyNumbers (replicate n TakesNumber)
+so_many_numbers zero = tt
+so_many_numbers (suc n) = so_many_numbers n
+
+data AllNumbers : List (List Takes) → Type 0 where
+  none : AllNumbers []
+  one : {ks : List Takes} {kss : List (List Takes)} → OnlyNumbers ks → AllNumbers kss → AllNumbers (ks ∷ kss)
+
+before_numbers : (n : Named) (kss : List (List Takes)) → AllNumbers kss → AllNumbers (takes_before n kss)
+before_numbers (AScalar x) kss h = h
+before_numbers (AGlobal a) kss h = h
+before_numbers (AnArray a) kss h = h
+before_numbers (AFunctionNamed f gives count) kss h = AllNumbers.one (so_many_numbers count) h
+before_numbers Reads kss h = h
+before_numbers AsksMore kss h = h
+before_numbers Prints kss h = h
+
+all_numbers : (ns : List FileName) → AllNumbers (takes_numbers ns)
+all_numbers [] = AllNumbers.none
+all_numbers (n ∷ ns) = before_numbers n.named (takes_numbers ns) (all_numbers ns)
+
+numbers_at : (kss : List (List Takes)) (f : ℕ) → AllNumbers kss → OnlyNumbers (slice_index_or kss f [])
+numbers_at [] f AllNumbers.none = tt
+numbers_at (ks ∷ kss) zero (AllNumbers.one h more) = h
+numbers_at (ks ∷ kss) (suc f) (AllNumbers.one h more) = numbers_at kss f more
+
+pub wants_numbers : (above : ℕ) (names : List FileName) (locals : List Known) (n : ℕ) (o : Option Named) → OnlyNumbers (wanted_by (in_function above names locals n) o)
+wants_numbers above names locals n None = tt
+wants_numbers above names locals n (Some (AScalar x)) = tt
+wants_numbers above names locals n (Some (AGlobal a)) = tt
+wants_numbers above names locals n (Some (AnArray a)) = tt
+wants_numbers above names locals n (Some (AFunctionNamed f gives count)) = numbers_at (takes_numbers names) f (all_numbers names)
+wants_numbers above names locals n (Some Reads) = tt
+wants_numbers above names locals n (Some AsksMore) = tt
+wants_numbers above names locals n (Some Prints) = tt
+
+-- such arguments are as those of a print
+pub numbers_fine : (e : Environment) (ks : List Takes) (row : syntax.Phrase Row) → OnlyNumbers ks → row_faults e ks row ≡ row_faults e [] row
+numbers_fine e ks syntax.NoMore h = refl
+numbers_fine e [] (syntax.Then place a rest) h = refl
+numbers_fine e (TakesNumber ∷ ks) (syntax.Then place a rest) h = ap (λ fs. phrase_faults e a ++ fs) (numbers_fine e ks rest h)
+numbers_fine e (TakesArray ∷ ks) (syntax.Then place a rest) h = absurd h
+
+pub numbers_handed : (e : Environment) (ks : List Takes) (row : syntax.Phrase Row) → OnlyNumbers ks → row_in e ks row ≡ row_in e [] row
+numbers_handed e ks syntax.NoMore h = refl
+numbers_handed e [] (syntax.Then place a rest) h = refl
+numbers_handed e (TakesNumber ∷ ks) (syntax.Then place a rest) h = ap (λ r. tree.Then (tree_in e a) r) (numbers_handed e ks rest h)
+numbers_handed e (TakesArray ∷ ks) (syntax.Then place a rest) h = absurd h

@@ -1,10 +1,13 @@
 -- Definitions, part by part.
 use Rattle.std.proofs.Common.{◌≡◌, ◌≤◌, ◌<◌, ◌+◌, ℕ, ℤ, pos, ◌-ℤ◌, List, [], ◌∷◌, ◌++◌, map, length, drop, Some, None, refl, sym, ap, ◌∙◌, subst, arith, append_assoc}
 use Rattle.vx_ast.specs.declared.syntax.Name.{Name}
+use Rattle.vx_ast.specs.declared.syntax.Parameter.{Parameter as AParameter}
 use Rattle.vx_ast.specs.declared.syntax.Definition.{Definition}
 use Rattle.vx_ast.specs.declared.syntax.Statement.{Statement}
 use Rattle.vx_ast.specs.declared.tree.Gives.{Gives}
 use Rattle.vx_ast.specs.declared.tree.Gives.TheVariants as gives
+use Rattle.vx_ast.specs.declared.tree.Takes.{Takes}
+use Rattle.vx_ast.specs.declared.tree.Takes.TheVariants as takes
 use Rattle.vx_ast.specs.declared.token.Keyword.TheVariants as words
 use Rattle.vx_ast.specs.declared.token.Mark.TheVariants as marks
 use Rattle.vx_ast.specs.declared.token.TokenKind.{TokenKind}
@@ -14,17 +17,18 @@ use Rattle.vx_ast.specs.Tree.{One, Row}
 use Rattle.vx_ast.specs.Syntax as syntax
 use Rattle.vx_ast.specs.SyntaxView as view
 use Rattle.vx_ast.specs.Phrases as phrases
-use Rattle.vx_ast.specs.Phrases.{Phrase, AfterName, GlobalValue, SignedNumber, MoreGlobals, Parameters, Parameter, MoreParameters, Block, Part, The, AName, ANumber, A, mark, word, parts_of, Derivation, Leaf, Node, NoMore, Then, Is}
-use Rattle.vx_ast.specs.Derivations.{name_of, size_of, signed_of, global_of, more_globals_of, parameter_of, parameters_of, block_of, after_name_of, definitions_of}
+use Rattle.vx_ast.specs.Phrases.{Phrase, AfterName, GlobalValue, SignedNumber, MoreGlobals, Parameters, Parameter, ParameterBrackets, MoreParameters, Block, Part, The, AName, ANumber, A, mark, word, parts_of, Derivation, Leaf, Node, NoMore, Then, Is}
+use Rattle.vx_ast.specs.Derivations.{name_of, size_of, signed_of, global_of, more_globals_of, takes_of, parameter_of, parameters_of, block_of, after_name_of, definitions_of}
 use Rattle.vx_parse.specs.declared.token.NameRead.{NameRead}
 use Rattle.vx_parse.specs.declared.token.NumberRead.{NumberRead}
 use Rattle.vx_parse.specs.declared.token.SizeRead.{SizeRead}
 use Rattle.vx_parse.specs.declared.definition.Definitions.{Definitions}
+use Rattle.vx_parse.specs.declared.definition.ParameterRead.{ParameterRead}
 use Rattle.vx_parse.specs.declared.definition.ParametersRead.{ParametersRead}
 use Rattle.vx_parse.specs.declared.definition.FunctionRead.{FunctionRead}
 use Rattle.vx_parse.specs.Reading.{next_kind, Passed, PassedName, PassedNumber, PassedSize, Parted, IsPhrase, Continues}
 use Rattle.vx_parse.specs.Statements.{MeansBlock}
-use Rattle.vx_parse.specs.Definitions.{MeansSigned, MeansGlobal, MeansGlobals, GlobalsBehind, MeansParameter, MeansParameters, ParametersBehind, Heading, IsFunction, IsAfterName, Defines}
+use Rattle.vx_parse.specs.Definitions.{MeansSigned, MeansGlobal, MeansGlobals, GlobalsBehind, MeansBrackets, MeansParameter, MeansParameters, ParametersBehind, Heading, IsFunction, IsAfterName, Defines}
 use Rattle.vx_parse.proofs.Parts.{Before, begin, past_token, past_phrase, past_row, ends, quietly}
 
 low : 0 ≤ 200
@@ -216,21 +220,53 @@ globals_are ts name before all more r first next global h n a e f g m k l =
 
 -- parameters
 
-parameter_parts : (k : TokenKind) → parts_of Parameter k ≡ Some (word words.Int ∷ AName ∷ [])
+bracket_pair_parts : {k : TokenKind} → k ≡ kinds.Mark marks.OpenBracket → parts_of ParameterBrackets k ≡ Some (mark marks.OpenBracket ∷ mark marks.CloseBracket ∷ [])
+unfolding parts_of
+bracket_pair_parts e = ap (parts_of ParameterBrackets) e
+
+no_bracket_parts : (k : TokenKind) → (k ≡ kinds.Mark marks.OpenBracket → ⊥) → parts_of ParameterBrackets k ≡ Some []
+unfolding parts_of
+no_bracket_parts (kinds.Mark marks.OpenBracket) h = absurd (h refl)
+no_bracket_parts k h = refl
+
+pub brackets_before : (ts : List Token) (i : ℕ) (c : Passed (mark marks.OpenBracket) ts i (i + 1)) → i < length ts → next_kind (drop i ts) ≡ kinds.Mark marks.OpenBracket
+    → Before (A ParameterBrackets ∷ []) ts i 0 (λ d. Then (Node ParameterBrackets (Then (Leaf c.token) d)) NoMore) (mark marks.CloseBracket ∷ []) (i + 1) 0
+brackets_before ts i c h e = past_token (quietly ParameterBrackets (mark marks.OpenBracket ∷ mark marks.CloseBracket ∷ []) ts i 0 refl refl refl low h (bracket_pair_parts e)) c
+
+pub array_taken : (ts : List Token) (i next : ℕ) (c : Passed (mark marks.OpenBracket) ts i (i + 1)) → i < length ts → next_kind (drop i ts) ≡ kinds.Mark marks.OpenBracket → Passed (mark marks.CloseBracket) ts (i + 1) next
+    → IsPhrase ParameterBrackets ts i i next 0 (MeansBrackets takes.Array)
+array_taken ts i next c h e o =
+    let b = past_token (brackets_before ts i c h e) o in
+    record { derivation = Node ParameterBrackets (Then (Leaf c.token) (Then (Leaf o.token) NoMore)); parted = ends b; means = refl; further = b.further }
+
+pub number_taken : (ts : List Token) (i : ℕ) → i < length ts → (next_kind (drop i ts) ≡ kinds.Mark marks.OpenBracket → ⊥) → IsPhrase ParameterBrackets ts i i i 0 (MeansBrackets takes.Number)
+number_taken ts i h n =
+    let b = quietly ParameterBrackets [] ts i 0 refl refl refl low h (no_bracket_parts (next_kind (drop i ts)) n) in
+    record { derivation = Node ParameterBrackets NoMore; parted = ends b; means = refl; further = b.further }
+
+parameter_parts : (k : TokenKind) → parts_of Parameter k ≡ Some (word words.Int ∷ AName ∷ A ParameterBrackets ∷ [])
 unfolding parts_of
 parameter_parts k = refl
 
-pub parameter_before : (ts : List Token) (i : ℕ) → i < length ts → Before (A Parameter ∷ []) ts i 0 (λ d. Then (Node Parameter d) NoMore) (word words.Int ∷ AName ∷ []) i 0
-parameter_before ts i h = quietly Parameter (word words.Int ∷ AName ∷ []) ts i 0 refl refl refl low h (parameter_parts (next_kind (drop i ts)))
+pub parameter_before : (ts : List Token) (i : ℕ) → i < length ts → Before (A Parameter ∷ []) ts i 0 (λ d. Then (Node Parameter d) NoMore) (word words.Int ∷ AName ∷ A ParameterBrackets ∷ []) i 0
+parameter_before ts i h = quietly Parameter (word words.Int ∷ AName ∷ A ParameterBrackets ∷ []) ts i 0 refl refl refl low h (parameter_parts (next_kind (drop i ts)))
 
-pub parameter_is : (ts : List Token) (i j : ℕ) (r : NameRead) → i < length ts → Passed (word words.Int) ts i j → PassedName ts j r → IsPhrase Parameter ts i (i + 1) r.next 0 (MeansParameter r.name)
-parameter_is ts i j r h c n =
-    let b = past_token (past_token (parameter_before ts i h) c) n.passed in
-    let f = c.further in let g = n.passed.further in
+same_parameter : (x y : AParameter) → x.name ≡ y.name → x.takes ≡ y.takes → x ≡ y
+same_parameter x y p q =
+    let first : x ≡ record { name = y.name; takes = x.takes } = ap (λ (z : Name). let n : AParameter = record { name = z; takes = x.takes } in n) p in
+    let second : record { name = y.name; takes = x.takes } ≡ y = ap (λ (z : Takes). let n : AParameter = record { name = y.name; takes = z } in n) q in
+    first ∙ second
+
+pub parameter_is : (ts : List Token) (i j next : ℕ) (name : NameRead) (parameter : AParameter) → i < length ts → Passed (word words.Int) ts i j → PassedName ts j name → IsPhrase ParameterBrackets ts name.next name.next next 0 (MeansBrackets parameter.takes)
+    → parameter.name ≡ name.name → IsPhrase Parameter ts i (i + 1) next 0 (MeansParameter parameter)
+parameter_is ts i j next name parameter h c n a e =
+    let b = past_phrase (past_token (past_token (parameter_before ts i h) c) n.passed) a.parted in
+    let f = c.further in let g = n.passed.further in let g1 = a.further in
+    let read : AParameter = record { name = name_of n.passed.token; takes = takes_of a.derivation } in
     record {
-      derivation = Node Parameter (Then (Leaf c.token) (Then (Leaf n.passed.token) NoMore));
+      derivation = Node Parameter (Then (Leaf c.token) (Then (Leaf n.passed.token) (Then a.derivation NoMore)));
       parted = ends b;
-      means = ap (λ (x : Name). x ∷ []) (sym n.name);
+      means = ap (λ (x : AParameter). x ∷ []) (same_parameter read parameter (sym (e ∙ n.name)) a.means);
       further = omega arith;
     }
 
@@ -258,9 +294,9 @@ no_next_tree = refl
 two_rows : {T : Type 0} {a b c d : List T} → a ≡ b → c ≡ d → a ++ c ≡ b ++ d
 two_rows {b} {c} p q = ap (λ l. l ++ c) p ∙ ap (λ l. b ++ l) q
 
-pub next_parameter : (ts : List Token) (i next : ℕ) (name : Name) (c : Passed (mark marks.Comma) ts i (i + 1)) → i < length ts → next_kind (drop i ts) ≡ kinds.Mark marks.Comma
-    → IsPhrase Parameter ts (i + 1) (i + 1 + 1) next 0 (MeansParameter name) → Continues MoreParameters ts i 0 MeansParameters next (name ∷ [])
-next_parameter ts i next name c h e a =
+pub next_parameter : (ts : List Token) (i next : ℕ) (parameter : AParameter) (c : Passed (mark marks.Comma) ts i (i + 1)) → i < length ts → next_kind (drop i ts) ≡ kinds.Mark marks.Comma
+    → IsPhrase Parameter ts (i + 1) (i + 1 + 1) next 0 (MeansParameter parameter) → Continues MoreParameters ts i 0 MeansParameters next (parameter ∷ [])
+next_parameter ts i next parameter c h e a =
     let b = past_phrase (next_before ts i c h e) a.parted in
     let g = b.further in
     record {
@@ -308,13 +344,13 @@ some_tree : (x y : Derivation One) → parameters_of (Node Parameters (Then x (T
 unfolding parameters_of
 some_tree x y = refl
 
-pub no_parameters : (ts : List Token) (i : ℕ) (names : List Name) → i < length ts → next_kind (drop i ts) ≡ kinds.Mark marks.CloseParenthesis → names ≡ [] → IsPhrase Parameters ts i i i 0 (MeansParameters names)
-no_parameters ts i names h e f =
+pub no_parameters : (ts : List Token) (i : ℕ) (all : List AParameter) → i < length ts → next_kind (drop i ts) ≡ kinds.Mark marks.CloseParenthesis → all ≡ [] → IsPhrase Parameters ts i i i 0 (MeansParameters all)
+no_parameters ts i all h e f =
     let b = quietly Parameters [] ts i 0 refl refl refl low h (none_parts e) in
     record { derivation = Node Parameters NoMore; parted = ends b; means = none_tree ∙ sym f; further = b.further }
 
-pub void_parameters : (ts : List Token) (i : ℕ) (names : List Name) (c : Passed (word words.Void) ts i (i + 1)) → i < length ts → next_kind (drop i ts) ≡ kinds.Keyword words.Void → names ≡ [] → IsPhrase Parameters ts i i (i + 1) 0 (MeansParameters names)
-void_parameters ts i names c h e f =
+pub void_parameters : (ts : List Token) (i : ℕ) (all : List AParameter) (c : Passed (word words.Void) ts i (i + 1)) → i < length ts → next_kind (drop i ts) ≡ kinds.Keyword words.Void → all ≡ [] → IsPhrase Parameters ts i i (i + 1) 0 (MeansParameters all)
+void_parameters ts i all c h e f =
     let b = past_token (quietly Parameters (word words.Void ∷ []) ts i 0 refl refl refl low h (void_parts e)) c in
     record { derivation = Node Parameters (Then (Leaf c.token) NoMore); parted = ends b; means = void_tree c.token ∙ sym f; further = b.further }
 
@@ -322,8 +358,8 @@ pub some_before : (ts : List Token) (i : ℕ) → i < length ts → (next_kind (
     → Before (A Parameters ∷ []) ts i 0 (λ d. Then (Node Parameters d) NoMore) (A Parameter ∷ A MoreParameters ∷ []) i 0
 some_before ts i h m n = quietly Parameters (A Parameter ∷ A MoreParameters ∷ []) ts i 0 refl refl refl low h (some_parts (next_kind (drop i ts)) m n)
 
-pub some_parameters : (ts : List Token) (i : ℕ) (first : NameRead) (before r : ParametersRead) → i < length ts → (next_kind (drop i ts) ≡ kinds.Mark marks.CloseParenthesis → ⊥) → (next_kind (drop i ts) ≡ kinds.Keyword words.Void → ⊥)
-    → IsPhrase Parameter ts i (i + 1) first.next 0 (MeansParameter first.name) → before.parameters ≡ first.name ∷ [] → before.next ≡ first.next → ParametersBehind before ts r → IsPhrase Parameters ts i i r.next 0 (MeansParameters r.parameters)
+pub some_parameters : (ts : List Token) (i : ℕ) (first : ParameterRead) (before r : ParametersRead) → i < length ts → (next_kind (drop i ts) ≡ kinds.Mark marks.CloseParenthesis → ⊥) → (next_kind (drop i ts) ≡ kinds.Keyword words.Void → ⊥)
+    → IsPhrase Parameter ts i (i + 1) first.next 0 (MeansParameter first.parameter) → before.parameters ≡ first.parameter ∷ [] → before.next ≡ first.next → ParametersBehind before ts r → IsPhrase Parameters ts i i r.next 0 (MeansParameters r.parameters)
 some_parameters ts i first before r h m n a e f g =
     let x = a.derivation in let y = g.phrase.derivation in
     let mid : Parted (A MoreParameters ∷ []) ts first.next r.next 0 (Then y NoMore) = subst (λ z. Parted (A MoreParameters ∷ []) ts z r.next 0 (Then y NoMore)) f g.phrase.parted in
@@ -331,7 +367,7 @@ some_parameters ts i first before r h m n a e f g =
     record {
       derivation = Node Parameters (Then x (Then y NoMore));
       parted = ends b;
-      means = some_tree x y ∙ two_rows a.means g.phrase.means ∙ sym (g.joined ∙ ap (λ (z : List Name). z ++ g.more) e);
+      means = some_tree x y ∙ two_rows a.means g.phrase.means ∙ sym (g.joined ∙ ap (λ (z : List AParameter). z ++ g.more) e);
       further = b.further;
     }
 
@@ -340,10 +376,10 @@ some_parameters ts i first before r h m n a e f g =
 pub heading_start : (ts : List Token) (i : ℕ) → i < length ts → Before Heading ts i 0 (λ d. d) Heading i 0
 heading_start ts i h = begin Heading ts i 0 refl low h
 
-same_function : {g : Gives} {n : Name} {a b : List Name} {c d : syntax.Code} → a ≡ b → c ≡ d → (let x : syntax.Function = record { gives = g; name = n; parameters = a; body = c } in x) ≡ (let y : syntax.Function = record { gives = g; name = n; parameters = b; body = d } in y)
+same_function : {g : Gives} {n : Name} {a b : List AParameter} {c d : syntax.Code} → a ≡ b → c ≡ d → (let x : syntax.Function = record { gives = g; name = n; parameters = a; body = c } in x) ≡ (let y : syntax.Function = record { gives = g; name = n; parameters = b; body = d } in y)
 same_function {g} {n} {a} {b} {c} {d} p q =
     let first : (let x : syntax.Function = record { gives = g; name = n; parameters = a; body = c } in x) ≡ (let y : syntax.Function = record { gives = g; name = n; parameters = b; body = c } in y) =
-    ap (λ (z : List Name). let x : syntax.Function = record { gives = g; name = n; parameters = z; body = c } in x) p in
+    ap (λ (z : List AParameter). let x : syntax.Function = record { gives = g; name = n; parameters = z; body = c } in x) p in
     first ∙ ap (λ (z : syntax.Code). let x : syntax.Function = record { gives = g; name = n; parameters = b; body = z } in x) q
 
 pub function_is : (ts : List Token) (i j m : ℕ) (name : Name) (gives : Gives) (parameters : ParametersRead) (statements : List Statement) (r : FunctionRead) → i < length ts → Passed (mark marks.OpenParenthesis) ts i j
@@ -368,7 +404,7 @@ function_tree : (t o c : Token) (x y : Derivation One)
 unfolding after_name_of
 function_tree t o c x y = refl
 
-named_function : {g : Gives} {m n : Name} {ps : List Name} {c : syntax.Code} → m ≡ n → syntax.AFunction (record { gives = g; name = m; parameters = ps; body = c }) ≡ syntax.AFunction (record { gives = g; name = n; parameters = ps; body = c })
+named_function : {g : Gives} {m n : Name} {ps : List AParameter} {c : syntax.Code} → m ≡ n → syntax.AFunction (record { gives = g; name = m; parameters = ps; body = c }) ≡ syntax.AFunction (record { gives = g; name = n; parameters = ps; body = c })
 named_function {g} {ps} {c} p = ap (λ (z : Name). syntax.AFunction (record { gives = g; name = z; parameters = ps; body = c })) p
 
 pub int_function_is : (ts : List Token) (name : Name) (before r : Definitions) (function : FunctionRead) (definition : Definition) → before.next < length ts → next_kind (drop before.next ts) ≡ kinds.Mark marks.OpenParenthesis

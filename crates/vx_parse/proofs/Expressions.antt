@@ -152,7 +152,7 @@ named_call t o c x s =
     subst P (sym s.is) refl
 
 pub call_is : (ts : List Token) (i k : ℕ) (name : Name) (inner : Operands) (r : Operand) → (o : Opens NameRest (mark marks.OpenParenthesis) (A Arguments ∷ mark marks.CloseParenthesis ∷ []) ts i (i + 1) 1)
-    → AreOperands Arguments ts (i + 1) (k + 1) inner → Passed (mark marks.CloseParenthesis) ts inner.next r.next → phrase_of r.expression ≡ syntax.Call name (row_in inner.expressions.items) → r.height ≡ 1 + inner.height
+    → AreOperands Arguments ts (i + 1) (k + 1) inner → Passed (mark marks.CloseParenthesis) ts inner.next r.next → phrase_of r.expression ≡ syntax.Call name (row_in inner.arguments.items) → r.height ≡ 1 + inner.height
     → IsNamed name ts i k r
 call_is ts i k name inner r o a f e h =
     let y = enclosed o a.is f in
@@ -160,7 +160,7 @@ call_is ts i k name inner r o a f e h =
     record {
       derivation = Node NameRest (Then (Leaf o.passed.token) (Then a.derivation (Then (Leaf f.token) NoMore)));
       is = y.is;
-      tree = λ t same. named_call t o.passed.token f.token a.derivation (of_phrase a.is) ∙ (let u = a.tree in let v : syntax.Call (name_of t) (arguments_of a.derivation) ≡ syntax.Call name (row_in inner.expressions.items) = cc in v ∙ sym e);
+      tree = λ t same. named_call t o.passed.token f.token a.derivation (of_phrase a.is) ∙ (let u = a.tree in let v : syntax.Call (name_of t) (arguments_of a.derivation) ≡ syntax.Call name (row_in inner.arguments.items) = cc in v ∙ sym e);
       height = omega arith;
       shallow = omega arith;
       further = omega arith;

@@ -9,12 +9,13 @@ use Rattle.vx_ast.specs.declared.token.TokenKind.{TokenKind}
 use Rattle.vx_ast.specs.declared.token.TokenKind.TheVariants as kinds
 use Rattle.vx_ast.specs.declared.token.Token.{Token}
 use Rattle.vx_ast.specs.Tree.{Row}
-use Rattle.vx_ast.specs.Phrases.{Phrase, Program, AfterName, GlobalValue, SignedNumber, MoreGlobals, Parameters, Parameter, MoreParameters, Block, Items, Item, ItemValue, MoreItems, Statement, ElsePart, First, OptionalExpression, OptionalSimple, Print, Simple, SimpleRest, Expression, ChoiceRest, Level, LevelRest, Primary, NameRest, Arguments, MoreExpressions, Part, The, AName, ANumber, AString, A, Fits, mark, word, strength, parts_of, Derivation, Leaf, Node, NoMore, Then, Is, nothing, token, phrase}
+use Rattle.vx_ast.specs.Phrases.{Phrase, Program, AfterName, GlobalValue, SignedNumber, MoreGlobals, Parameters, Parameter, ParameterBrackets, MoreParameters, Block, Items, Item, ItemValue, MoreItems, Statement, ElsePart, First, OptionalExpression, OptionalSimple, Print, Simple, SimpleRest, Expression, ChoiceRest, Level, LevelRest, Primary, NameRest, Arguments, MoreExpressions, Part, The, AName, ANumber, AString, A, Fits, mark, word, strength, parts_of, Derivation, Leaf, Node, NoMore, Then, Is, nothing, token, phrase}
 
 -- a kind of token behind which every phrase ends that may
 pub record Neutral (k : TokenKind) : Type 0 where
   pub value : parts_of GlobalValue k ≡ Some []
   pub globals : parts_of MoreGlobals k ≡ Some []
+  pub brackets : parts_of ParameterBrackets k ≡ Some []
   pub parameters : parts_of MoreParameters k ≡ Some []
   pub item : parts_of ItemValue k ≡ Some []
   pub items : parts_of MoreItems k ≡ Some []
@@ -35,31 +36,31 @@ level n k x h = rest_by n k (nat_eq (strength k) n) refl x.strong h
 
 semicolon : Neutral (kinds.Mark marks.Semicolon)
 unfolding parts_of
-semicolon = record { value = refl; globals = refl; parameters = refl; item = refl; items = refl; other = refl; simple = refl; choice = refl; name = refl; expressions = refl; strong = refl }
+semicolon = record { value = refl; globals = refl; brackets = refl; parameters = refl; item = refl; items = refl; other = refl; simple = refl; choice = refl; name = refl; expressions = refl; strong = refl }
 
 close_parenthesis : Neutral (kinds.Mark marks.CloseParenthesis)
 unfolding parts_of
-close_parenthesis = record { value = refl; globals = refl; parameters = refl; item = refl; items = refl; other = refl; simple = refl; choice = refl; name = refl; expressions = refl; strong = refl }
+close_parenthesis = record { value = refl; globals = refl; brackets = refl; parameters = refl; item = refl; items = refl; other = refl; simple = refl; choice = refl; name = refl; expressions = refl; strong = refl }
 
 close_bracket : Neutral (kinds.Mark marks.CloseBracket)
 unfolding parts_of
-close_bracket = record { value = refl; globals = refl; parameters = refl; item = refl; items = refl; other = refl; simple = refl; choice = refl; name = refl; expressions = refl; strong = refl }
+close_bracket = record { value = refl; globals = refl; brackets = refl; parameters = refl; item = refl; items = refl; other = refl; simple = refl; choice = refl; name = refl; expressions = refl; strong = refl }
 
 close_brace : Neutral (kinds.Mark marks.CloseBrace)
 unfolding parts_of
-close_brace = record { value = refl; globals = refl; parameters = refl; item = refl; items = refl; other = refl; simple = refl; choice = refl; name = refl; expressions = refl; strong = refl }
+close_brace = record { value = refl; globals = refl; brackets = refl; parameters = refl; item = refl; items = refl; other = refl; simple = refl; choice = refl; name = refl; expressions = refl; strong = refl }
 
 colon : Neutral (kinds.Mark marks.Colon)
 unfolding parts_of
-colon = record { value = refl; globals = refl; parameters = refl; item = refl; items = refl; other = refl; simple = refl; choice = refl; name = refl; expressions = refl; strong = refl }
+colon = record { value = refl; globals = refl; brackets = refl; parameters = refl; item = refl; items = refl; other = refl; simple = refl; choice = refl; name = refl; expressions = refl; strong = refl }
 
 while_word : Neutral (kinds.Keyword words.While)
 unfolding parts_of
-while_word = record { value = refl; globals = refl; parameters = refl; item = refl; items = refl; other = refl; simple = refl; choice = refl; name = refl; expressions = refl; strong = refl }
+while_word = record { value = refl; globals = refl; brackets = refl; parameters = refl; item = refl; items = refl; other = refl; simple = refl; choice = refl; name = refl; expressions = refl; strong = refl }
 
 the_end : Neutral (kinds.End)
 unfolding parts_of
-the_end = record { value = refl; globals = refl; parameters = refl; item = refl; items = refl; other = refl; simple = refl; choice = refl; name = refl; expressions = refl; strong = refl }
+the_end = record { value = refl; globals = refl; brackets = refl; parameters = refl; item = refl; items = refl; other = refl; simple = refl; choice = refl; name = refl; expressions = refl; strong = refl }
 
 -- the shortest tokens of a part
 abbrev pub zero_token : Token
@@ -172,7 +173,8 @@ fill_one GlobalValue t ts k = alone GlobalValue t ts k.value
 fill_one SignedNumber t ts k = made (phrase SignedNumber (ANumber ∷ []) refl (token (pos 0, refl) nothing) nothing)
 fill_one MoreGlobals t ts k = alone MoreGlobals t ts k.globals
 fill_one Parameters t ts k = made (phrase Parameters (word words.Void ∷ []) refl (token refl nothing) nothing)
-fill_one Parameter t ts k = made (phrase Parameter (word words.Int ∷ AName ∷ []) refl (token refl (token (97 ∷ [], refl) nothing)) nothing)
+fill_one Parameter t ts k = made (phrase Parameter (word words.Int ∷ AName ∷ A ParameterBrackets ∷ []) refl (token refl (token (97 ∷ [], refl) (alone ParameterBrackets t ts k.brackets).is)) nothing)
+fill_one ParameterBrackets t ts k = alone ParameterBrackets t ts k.brackets
 fill_one MoreParameters t ts k = alone MoreParameters t ts k.parameters
 fill_one Block t ts k = made (phrase Block (mark marks.OpenBrace ∷ A Items ∷ mark marks.CloseBrace ∷ []) refl (token refl (phrase Items [] refl nothing (token refl nothing))) nothing)
 fill_one Items t ts k = alone Items t ts (ap (parts_of Items) k)
@@ -255,7 +257,9 @@ closed MoreGlobals t k o = tt
 closed Parameters (kinds.Mark marks.CloseParenthesis) k o = tt
 closed Parameters (kinds.Keyword words.Void) k o = tt
 closed Parameters t k o = (o, (o, tt))
-closed Parameter t k o = tt
+closed Parameter t k o = (o, tt)
+closed ParameterBrackets (kinds.Mark marks.OpenBracket) k o = tt
+closed ParameterBrackets t k o = tt
 closed MoreParameters (kinds.Mark marks.Comma) k o = (o, (o, tt))
 closed MoreParameters t k o = tt
 closed Block t k o = (refl, tt)

@@ -10,6 +10,7 @@ pub mod Steps
 pub mod Rows
 pub mod Views
 pub mod Expressions
+pub mod Leads
 pub mod Arguments
 pub mod Parts
 pub mod Loops

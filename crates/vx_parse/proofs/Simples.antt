@@ -1,6 +1,5 @@
 -- Simple statements and declarations, part by part.
-use Rattle.std.proofs.Common.{◌≡◌, ◌≢◌, ◌≤◌, ◌<◌, ◌+◌, ℕ, zero, suc, List, [], ◌∷◌, ◌++◌, length, drop, Option, Some, refl, sym, ap, ◌∙◌, subst, arith}
-use Rattle.std.specs.Prelude.{IfSome}
+use Rattle.std.proofs.Common.{◌≡◌, ◌≢◌, ◌≤◌, ◌<◌, ◌+◌, ℕ, List, [], ◌∷◌, ◌++◌, length, drop, Some, refl, sym, ap, ◌∙◌, subst, arith}
 use Rattle.vx_ast.specs.declared.syntax.Name.{Name}
 use Rattle.vx_ast.specs.declared.syntax.Place.{Place}
 use Rattle.vx_ast.specs.declared.syntax.Simple.{Simple}
@@ -14,8 +13,8 @@ use Rattle.vx_ast.specs.Syntax as syntax
 use Rattle.vx_ast.specs.SyntaxView as view
 use Rattle.vx_ast.specs.SyntaxView.{phrase_of}
 use Rattle.vx_ast.specs.Phrases as phrases
-use Rattle.vx_ast.specs.Phrases.{Phrase, SimpleRest, ItemValue, MoreItems, Level, Primary, Part, The, AName, ANumber, A, mark, simple_rest, parts_of, Derivation, Leaf, Node, NoMore, Then, Is, nothing, token, phrase}
-use Rattle.vx_ast.specs.Derivations.{place_of, name_of, size_of, expression_of, first_place, target_of, stepped, assigned, done_to, action_of, valued, item_of, more_items_of}
+use Rattle.vx_ast.specs.Phrases.{Phrase, SimpleRest, ItemValue, MoreItems, Level, Part, The, AName, ANumber, A, mark, simple_rest, parts_of, Derivation, Leaf, Node, NoMore, Then}
+use Rattle.vx_ast.specs.Derivations.{name_of, size_of, expression_of, target_of, stepped, assigned, done_to, action_of, valued, item_of, more_items_of}
 use Rattle.vx_parse.specs.declared.expression.Operand.{Operand}
 use Rattle.vx_parse.specs.declared.token.NameRead.{NameRead}
 use Rattle.vx_parse.specs.declared.token.SizeRead.{SizeRead}
@@ -23,7 +22,8 @@ use Rattle.vx_parse.specs.declared.simple.ItemRead.{ItemRead}
 use Rattle.vx_parse.specs.declared.simple.ItemsRead.{ItemsRead}
 use Rattle.vx_parse.specs.Reading.{next_kind, next_place, Ended, Passed, PassedName, PassedSize, Parted, IsPhrase, IsOperand, Continues}
 use Rattle.vx_parse.specs.Statements.{MeansAction, MeansDone, MeansItem, MeansValue, MeansItems, AreItems, ItemsBehind, row_inside}
-use Rattle.vx_parse.proofs.Tokens.{next_token, passes}
+use Rattle.vx_parse.proofs.Tokens.{passes}
+use Rattle.vx_parse.proofs.Leads.{Leads, begins_at}
 use Rattle.vx_parse.proofs.Expressions.{OfPhrase, of_phrase, alone_depth}
 use Rattle.vx_parse.proofs.Parts.{Before, begin, past_token, past_phrase, ends, quietly}
 
@@ -32,60 +32,6 @@ operand_parted a = let e = alone_depth a.derivation in let f = a.height in let g
 
 pub parted_to : {ps : List Part} {ts : List Token} {i j m k : ℕ} {d : Derivation Row} → j ≡ m → Parted ps ts i j k d → Parted ps ts i m k d
 parted_to {ps} {ts} {i} {k} {d} e a = subst (λ n. Parted ps ts i n k d) e a
-
--- where an expression begins
-
-abbrev Leads : Phrase → Type 0
-Leads phrases.Expression = Unit {0}
-Leads (Level n) = Unit {0}
-Leads Primary = Unit {0}
-Leads p = ⊥
-
-abbrev RowLeads : List Part → Type 0
-RowLeads [] = ⊥
-RowLeads (A p ∷ ps) = Leads p
-RowLeads (q ∷ ps) = Unit {0}
-
-leads_on : (p : Phrase) (k : TokenKind) → Leads p → IfSome (parts_of p k) RowLeads
-unfolding parts_of
-leads_on phrases.Expression k h = tt
-leads_on (Level zero) (kinds.Mark marks.Minus) h = tt
-leads_on (Level zero) (kinds.Mark marks.Plus) h = tt
-leads_on (Level zero) (kinds.Mark marks.Exclamation) h = tt
-leads_on (Level zero) (kinds.Mark marks.Tilde) h = tt
-leads_on (Level zero) k h = tt
-leads_on (Level (suc n)) k h = tt
-leads_on Primary (kinds.Number z) h = tt
-leads_on Primary (kinds.Name b) h = tt
-leads_on Primary (kinds.Mark marks.OpenParenthesis) h = tt
-leads_on Primary k h = tt
-leads_on p k h = absurd h
-
-abbrev row_place : Derivation Row → Place
-row_place (Then d more) = first_place d
-row_place NoMore = record { line = 0; column = 0 }
-
-node_place : (p : Phrase) (d : Derivation Row) → first_place (Node p d) ≡ row_place d
-unfolding first_place
-node_place p NoMore = refl
-node_place p (Then d more) = refl
-
-leaf_place : (t : Token) → first_place (Leaf t) ≡ place_of t
-unfolding first_place
-leaf_place t = refl
-
-lead : {ps : List Part} {t : Token} {ts rest : List Token} {d : Derivation Row} → RowLeads ps → Is ps (t ∷ ts) d rest → row_place d ≡ place_of t
-lead h nothing = absurd h
-lead {t} h (token f a) = leaf_place t
-lead {t} h (phrase p inner {d} k i a) =
-    let l : RowLeads inner = subst (λ (z : Option (List Part)). IfSome z RowLeads) k (leads_on p t.kind h) in
-    node_place p d ∙ lead l i
-
-begins_at : {p : Phrase} {rest : List Token} {x : Derivation One} (ts : List Token) (i : ℕ) → Leads p → i < length ts → Is (A p ∷ []) (drop i ts) (Then x NoMore) rest → first_place x ≡ next_place (drop i ts)
-begins_at {p} {rest} {x} ts i l h a =
-    let t = next_token ts i h in
-    let b : Is (A p ∷ []) (t.token ∷ drop (i + 1) ts) (Then x NoMore) rest = subst (λ z. Is (A p ∷ []) z (Then x NoMore) rest) t.is a in
-    lead l b ∙ sym (ap next_place t.is)
 
 same_target : (a b : syntax.Target) → a.place ≡ b.place → a.phrase ≡ b.phrase → a ≡ b
 same_target a b p q =

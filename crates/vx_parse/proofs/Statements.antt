@@ -4,6 +4,7 @@ use Rattle.std.specs.Prelude.{option_map}
 use Rattle.vx_ast.specs.declared.syntax.Place.{Place}
 use Rattle.vx_ast.specs.declared.syntax.Simple.{Simple}
 use Rattle.vx_ast.specs.declared.syntax.First.{First}
+use Rattle.vx_ast.specs.declared.syntax.Argument.{Argument}
 use Rattle.vx_ast.specs.declared.syntax.Expression.{Expression}
 use Rattle.vx_ast.specs.declared.syntax.Statement.{Statement}
 use Rattle.vx_ast.specs.declared.token.Keyword.{Keyword}
@@ -196,13 +197,13 @@ same_print {a} {b} {c} {d} {x} {y} {v} {w} p q r s =
     ap (λ z. syntax.Print z c x v) p ∙ ap (λ z. syntax.Print b z x v) q ∙ ap (λ z. syntax.Print b d z v) r ∙ ap (λ z. syntax.Print b d y z) s
 
 pub printed_is : (ts : List Token) (i k j next : ℕ) (text : TextRead) (before r : Operands) (print : PrintRead) (c : Passed AName ts i (i + 1)) → i < length ts → k ≤ 200
-    → Passed (mark marks.OpenParenthesis) ts (i + 1) j → PassedText ts j text → before.next ≡ text.next → before.expressions.items ≡ [] → AreMore before ts k r → Passed (mark marks.CloseParenthesis) ts r.next next
-    → print.place ≡ next_place (drop i ts) → print.format_place ≡ next_place (drop j ts) → print.format ≡ text.bytes → print.arguments.items ≡ r.expressions.items → IsPhrase Print ts i (i + 1) next k (MeansPrint print)
+    → Passed (mark marks.OpenParenthesis) ts (i + 1) j → PassedText ts j text → before.next ≡ text.next → before.arguments.items ≡ [] → AreMore before ts k r → Passed (mark marks.CloseParenthesis) ts r.next next
+    → print.place ≡ next_place (drop i ts) → print.format_place ≡ next_place (drop j ts) → print.format ≡ text.bytes → print.arguments.items ≡ r.arguments.items → IsPhrase Print ts i (i + 1) next k (MeansPrint print)
 printed_is ts i k j next text before r print c h l o t n z a d p q f g0 =
     let x = a.derivation in
     let mid : Parted (A MoreExpressions ∷ []) ts text.next r.next k (Then x NoMore) = subst (λ m. Parted (A MoreExpressions ∷ []) ts m r.next k (Then x NoMore)) n (more_parted a) in
     let b = past_token (past_phrase (past_token (past_token (print_before ts i k c h l) o) t.passed) mid) d in
-    let items : r.expressions.items ≡ a.more = a.joined ∙ ap (λ (m : List Expression). m ++ a.more) z in
+    let items : r.arguments.items ≡ a.more = a.joined ∙ ap (λ (m : List Argument). m ++ a.more) z in
     let e1 : place_of c.token ≡ print.place = sym (p ∙ ap next_place c.is) in
     let e2 : place_of t.passed.token ≡ print.format_place = sym (q ∙ ap next_place t.passed.is) in
     let e3 : arguments_of x ≡ row_in print.arguments.items = a.tree ∙ sym (ap row_in (g0 ∙ items)) in

@@ -1,12 +1,15 @@
 -- Worked rows: trees and depths of derivations.
-use Rattle.std.proofs.Common.{◌≡◌, ℕ, ℤ, pos, refl}
+use Rattle.std.proofs.Common.{◌≡◌, ℕ, ℤ, pos, [], ◌∷◌, refl}
+use Rattle.std.specs.Prelude.{codes}
+use Rattle.vx_ast.specs.declared.token.Keyword.TheVariants as words
 use Rattle.vx_ast.specs.declared.token.Mark.TheVariants as marks
 use Rattle.vx_ast.specs.declared.token.TokenKind.TheVariants as kinds
 use Rattle.vx_ast.specs.declared.tree.BinaryOperator.TheVariants as binary
-use Rattle.vx_ast.specs.Tree.{One}
+use Rattle.vx_ast.specs.declared.tree.Takes.TheVariants as takes
+use Rattle.vx_ast.specs.Tree.{One, Row}
 use Rattle.vx_ast.specs.Syntax as syntax
-use Rattle.vx_ast.specs.Phrases.{Level, LevelRest, Primary, Derivation, Leaf, Node, NoMore, Then}
-use Rattle.vx_ast.specs.Derivations.{expression_of, behind, first_place, depth_behind, row_depth, operator_depth}
+use Rattle.vx_ast.specs.Phrases.{Parameter, ParameterBrackets, Level, LevelRest, Primary, Arguments, MoreExpressions, Derivation, Leaf, Node, NoMore, Then}
+use Rattle.vx_ast.specs.Derivations.{expression_of, behind, arguments_of, arguments_in, first_place, parameter_of, depth_behind, row_depth, operator_depth}
 
 -- a minus at this column
 abbrev sign : ℕ → Derivation One
@@ -45,3 +48,22 @@ one_construct = refl
 first_token : first_place parenthesis ≡ record { line = 1; column = 5 }
 unfolding first_place
 first_token = refl
+
+-- `(7)` as an argument stands where the parenthesis does
+argument_place : arguments_of (Node Arguments (Then parenthesis (Then (Node MoreExpressions NoMore) NoMore))) ≡ syntax.Then (record { line = 1; column = 5 }) (syntax.Number (pos 7)) syntax.NoMore
+unfolding arguments_of arguments_in first_place expression_of behind
+argument_place = refl
+
+-- `int a`, with this behind it
+abbrev parameter : Derivation Row → Derivation One
+parameter brackets =
+    Node Parameter (Then (Leaf (record { kind = kinds.Keyword words.Int; start = 0; end = 0; line = 1; column = 7 }))
+    (Then (Leaf (record { kind = kinds.Name (codes "a"); start = 0; end = 0; line = 1; column = 11 })) (Then (Node ParameterBrackets brackets) NoMore)))
+
+-- with brackets it takes an array, without them a number
+an_array : parameter_of (parameter (Then (Leaf (record { kind = kinds.Mark marks.OpenBracket; start = 0; end = 0; line = 1; column = 12 })) (Then (Leaf (record { kind = kinds.Mark marks.CloseBracket; start = 0; end = 0; line = 1; column = 13 })) NoMore)))
+    ≡ (record { name = record { bytes = codes "a"; place = record { line = 1; column = 11 } }; takes = takes.Array }) ∷ []
+an_array = refl
+
+a_number : parameter_of (parameter NoMore) ≡ (record { name = record { bytes = codes "a"; place = record { line = 1; column = 11 } }; takes = takes.Number }) ∷ []
+a_number = refl

@@ -1,15 +1,17 @@
 -- What the derivations of definitions mean.
 use Rattle.std.specs.Prelude.{◌≡◌, ◌<◌, ℕ, ℤ, ◌++◌, List, [], ◌∷◌, map}
 use Rattle.vx_ast.specs.declared.syntax.Name.{Name}
+use Rattle.vx_ast.specs.declared.syntax.Parameter.{Parameter}
 use Rattle.vx_ast.specs.declared.syntax.Definition.{Definition}
 use Rattle.vx_ast.specs.declared.tree.Gives.{Gives}
+use Rattle.vx_ast.specs.declared.tree.Takes.{Takes}
 use Rattle.vx_ast.specs.declared.token.Mark.TheVariants as marks
 use Rattle.vx_ast.specs.declared.token.Token.{Token}
 use Rattle.vx_ast.specs.Tree.{One}
 use Rattle.vx_ast.specs.SyntaxView as view
 use Rattle.vx_ast.specs.Phrases as phrases
 use Rattle.vx_ast.specs.Phrases.{Phrase, AfterName, MoreGlobals, MoreParameters, Parameters, Block, Part, A, mark, Derivation, Leaf, NoMore, Then}
-use Rattle.vx_ast.specs.Derivations.{name_of, signed_of, global_of, more_globals_of, parameter_of, parameters_of, block_of, after_name_of, definitions_of}
+use Rattle.vx_ast.specs.Derivations.{name_of, signed_of, global_of, more_globals_of, takes_of, parameter_of, parameters_of, block_of, after_name_of, definitions_of}
 use Rattle.vx_parse.specs.declared.definition.Definitions.{Definitions}
 use Rattle.vx_parse.specs.declared.definition.ParametersRead.{ParametersRead}
 use Rattle.vx_parse.specs.declared.definition.FunctionRead.{FunctionRead}
@@ -31,15 +33,18 @@ pub record GlobalsBehind (before : Definitions) (tokens : List Token) (r : Defin
   pub joined : r.definitions.items ≡ before.definitions.items ++ more
   pub phrase : IsPhrase MoreGlobals tokens before.next before.next r.next 0 (MeansGlobals more)
 
-abbrev pub MeansParameter : Name → Derivation One → Type 0
-MeansParameter name d = parameter_of d ≡ name ∷ []
+abbrev pub MeansBrackets : Takes → Derivation One → Type 0
+MeansBrackets takes d = takes_of d ≡ takes
 
-abbrev pub MeansParameters : List Name → Derivation One → Type 0
-MeansParameters names d = parameters_of d ≡ names
+abbrev pub MeansParameter : Parameter → Derivation One → Type 0
+MeansParameter parameter d = parameter_of d ≡ parameter ∷ []
+
+abbrev pub MeansParameters : List Parameter → Derivation One → Type 0
+MeansParameters parameters d = parameters_of d ≡ parameters
 
 -- parameters with those before them
 pub record ParametersBehind (before : ParametersRead) (tokens : List Token) (r : ParametersRead) : Type 0 where
-  pub more : List Name
+  pub more : List Parameter
   pub joined : r.parameters ≡ before.parameters ++ more
   pub phrase : IsPhrase MoreParameters tokens before.next before.next r.next 0 (MeansParameters more)
 

@@ -5,7 +5,7 @@ use Rattle.vx_ast.specs.declared.token.TokenKind.TheVariants as kinds
 use Rattle.vx_ast.specs.declared.token.Token.{Token}
 use Rattle.vx_ast.specs.declared.syntax.Place.{Place}
 use Rattle.vx_ast.specs.declared.syntax.Name.{Name}
-use Rattle.vx_ast.specs.declared.syntax.Expression.{Expression}
+use Rattle.vx_ast.specs.declared.syntax.Argument.{Argument}
 use Rattle.vx_ast.specs.Tree.{One, Row}
 use Rattle.vx_ast.specs.Syntax as syntax
 use Rattle.vx_ast.specs.SyntaxView.{phrase_of, row_in}
@@ -126,11 +126,11 @@ pub record IsBehind (strength : ℕ) (left : syntax.Phrase One) (left_height : �
   pub further : place ≤ r.next
   pub within : r.next < length tokens
 
--- a row of expressions
+-- a row of arguments
 pub record AreOperands (p : Phrase) (tokens : List Token) (place depth : ℕ) (r : Operands) : Type 0 where
   pub derivation : Derivation One
   pub is : Is (A p ∷ []) (drop place tokens) (Then derivation NoMore) (drop r.next tokens)
-  pub tree : arguments_of derivation ≡ row_in r.expressions.items
+  pub tree : arguments_of derivation ≡ row_in r.arguments.items
   pub height : depth_behind 0 derivation ≡ r.height
   pub shallow : depth + r.height ≤ 200
   pub further : place ≤ r.next
@@ -146,12 +146,12 @@ pub record IsNamed (name : Name) (tokens : List Token) (place depth : ℕ) (r : 
   pub further : place ≤ r.next
   pub within : r.next < length tokens
 
--- expressions with those that were read before
+-- arguments with those that were read before
 pub record AreMore (before : Operands) (tokens : List Token) (depth : ℕ) (r : Operands) : Type 0 where
   pub derivation : Derivation One
   pub is : Is (A MoreExpressions ∷ []) (drop before.next tokens) (Then derivation NoMore) (drop r.next tokens)
-  pub more : List Expression
-  pub joined : r.expressions.items ≡ before.expressions.items ++ more
+  pub more : List Argument
+  pub joined : r.arguments.items ≡ before.arguments.items ++ more
   pub tree : arguments_of derivation ≡ row_in more
   pub height : max before.height (depth_behind 0 derivation) ≡ r.height
   pub shallow : depth + r.height ≤ 200
@@ -164,4 +164,4 @@ IsIndex tokens place depth r = (name : Name) (made : Operand) → phrase_of made
 
 -- arguments with their parentheses: the call that a name makes with them is that name with what stands behind it
 abbrev pub AreCalled : (tokens : List Token) (place depth : ℕ) → Operands → Type 0
-AreCalled tokens place depth r = (name : Name) (made : Operand) → phrase_of made.expression ≡ syntax.Call name (row_in r.expressions.items) → made.height ≡ r.height → made.next ≡ r.next → IsNamed name tokens place depth made
+AreCalled tokens place depth r = (name : Name) (made : Operand) → phrase_of made.expression ≡ syntax.Call name (row_in r.arguments.items) → made.height ≡ r.height → made.next ≡ r.next → IsNamed name tokens place depth made

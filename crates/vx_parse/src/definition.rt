@@ -5,21 +5,20 @@ ghost use Rattle.vx_ast.specs.declared.token.Keyword.TheVariants as words;
 ghost use Rattle.vx_ast.specs.declared.token.Mark.TheVariants as marks;
 ghost use Rattle.vx_ast.specs.declared.token.TokenKind.TheVariants as kinds;
 ghost use Rattle.vx_ast.specs.Phrases as phrases;
-ghost use Rattle.vx_ast.specs.Phrases.{AfterName, GlobalValue, SignedNumber, MoreGlobals, Parameters, Parameter, MoreParameters, A};
+ghost use Rattle.vx_ast.specs.Phrases.{AfterName, GlobalValue, SignedNumber, MoreGlobals, Parameters, ParameterBrackets, MoreParameters, A};
 ghost use Rattle.vx_parse.specs.Reading.{Ended, next_kind, Stops, IsPhrase, Continues};
-ghost use Rattle.vx_parse.specs.Definitions.{MeansSigned, MeansGlobal, MeansGlobals, MeansParameter, MeansParameters, MeansDefinitions, GlobalsBehind, ParametersBehind, Heading, IsFunction, IsAfterName, Defines};
+ghost use Rattle.vx_parse.specs.Definitions.{MeansSigned, MeansGlobal, MeansGlobals, MeansBrackets, MeansParameter, MeansParameters, MeansDefinitions, GlobalsBehind, ParametersBehind, Heading, IsFunction, IsAfterName, Defines};
 
 use crate::memory::append;
 use crate::statement::read_block;
 use crate::stop::Stop;
 use crate::token::{
-    NameRead, NumberRead, is_mark, is_word, kind_at, read_mark, read_name, read_number, read_size,
-    read_word,
+    NumberRead, is_mark, is_word, kind_at, read_mark, read_name, read_number, read_size, read_word,
 };
 use std::alloc::Global;
-use vx_ast::syntax::{Definition, Function, Name};
+use vx_ast::syntax::{Definition, Function, Name, Parameter};
 use vx_ast::token::{Keyword, Mark, Token};
-use vx_ast::tree::Gives;
+use vx_ast::tree::{Gives, Takes};
 use vx_base::listed::Listed;
 
 /// Definitions, and the place behind them.
@@ -40,11 +39,29 @@ pub struct DefinitionRead {
     pub next: usize,
 }
 
+/// What a parameter takes, and the place behind it.
+#[derive(Clone, Copy)]
+pub struct TakesRead {
+    /// What it takes.
+    pub takes: Takes,
+    /// How many tokens stand before what comes next.
+    pub next: usize,
+}
+
+/// A parameter, and the place behind it.
+#[derive(Drop)]
+pub struct ParameterRead {
+    /// The parameter.
+    pub parameter: Parameter,
+    /// How many tokens stand before what comes next.
+    pub next: usize,
+}
+
 /// The parameters of a function, and the place behind them.
 #[derive(Drop)]
 pub struct ParametersRead {
-    /// The names of the parameters.
-    pub parameters: Listed<Name>,
+    /// The parameters.
+    pub parameters: Listed<Parameter>,
     /// How many tokens stand before what comes next.
     pub next: usize,
 }
@@ -182,22 +199,50 @@ fn read_globals(
     })
 }
 
-fn read_parameter(alloc: Global, tokens: &[Token], place: usize) -> Result<NameRead, Stop>
+// What stands behind the name of a parameter: `[]`, where it takes an array, or nothing.
+fn read_brackets(tokens: &[Token], place: usize) -> Result<TakesRead, Stop>
     requires ended { Ended tokens.now }
     requires within { place < length tokens.now }
-    ensures ok { IfOk result (λ r. IsPhrase Parameter tokens.now place (place + 1) r.next 0 (MeansParameter r.name)) }
-    ensures stop { IfErr result (λ stop. Stops (A Parameter ∷ []) (drop place tokens.now) tokens.now 0 0 stop) }
+    ensures ok { IfOk result (λ r. IsPhrase ParameterBrackets tokens.now place place r.next 0 (MeansBrackets r.takes)) }
+    ensures stop { IfErr result (λ stop. Stops (A ParameterBrackets ∷ []) (drop place tokens.now) tokens.now 0 0 stop) }
+{
+    if !is_mark(kind_at(tokens, place), Mark::OpenBracket) {
+        return Ok(TakesRead {
+            takes: Takes::Number,
+            next: place,
+        });
+    }
+    let next = read_mark(tokens, place + 1, Mark::CloseBracket)?;
+    Ok(TakesRead {
+        takes: Takes::Array,
+        next,
+    })
+}
+
+fn read_parameter(alloc: Global, tokens: &[Token], place: usize) -> Result<ParameterRead, Stop>
+    requires ended { Ended tokens.now }
+    requires within { place < length tokens.now }
+    ensures ok { IfOk result (λ r. IsPhrase phrases.Parameter tokens.now place (place + 1) r.next 0 (MeansParameter r.parameter)) }
+    ensures stop { IfErr result (λ stop. Stops (A phrases.Parameter ∷ []) (drop place tokens.now) tokens.now 0 0 stop) }
 {
     let name_place = read_word(tokens, place, Keyword::Int)?;
-    read_name(alloc, tokens, name_place)
+    let name = read_name(alloc, tokens, name_place)?;
+    let behind = read_brackets(tokens, name.next)?;
+    Ok(ParameterRead {
+        parameter: Parameter {
+            name: name.name,
+            takes: behind.takes,
+        },
+        next: behind.next,
+    })
 }
 
 // A parameter behind a comma.
-fn read_next_parameter(alloc: Global, tokens: &[Token], place: usize) -> Result<NameRead, Stop>
+fn read_next_parameter(alloc: Global, tokens: &[Token], place: usize) -> Result<ParameterRead, Stop>
     requires ended { Ended tokens.now }
     requires within { place < length tokens.now }
     requires comma { next_kind (drop place tokens.now) ≡ kinds.Mark marks.Comma }
-    ensures ok { IfOk result (λ r. Continues MoreParameters tokens.now place 0 MeansParameters r.next (r.name ∷ [])) }
+    ensures ok { IfOk result (λ r. Continues MoreParameters tokens.now place 0 MeansParameters r.next (r.parameter ∷ [])) }
     ensures stop { IfErr result (λ stop. Stops (A MoreParameters ∷ []) (drop place tokens.now) tokens.now 0 0 stop) }
     ensures further { IfOk result (λ r. place < r.next) }
 {
@@ -221,7 +266,7 @@ fn read_more_parameters(
             return Ok(all);
         }
         let parameter = read_next_parameter(alloc, tokens, all.next)?;
-        all.parameters.push(parameter.name)?;
+        all.parameters.push(parameter.parameter)?;
         all.next = parameter.next;
     }
 }
@@ -248,7 +293,7 @@ fn read_parameters(alloc: Global, tokens: &[Token], place: usize) -> Result<Para
         });
     }
     let first = read_parameter(alloc, tokens, place)?;
-    parameters.push(first.name)?;
+    parameters.push(first.parameter)?;
     let before = ParametersRead {
         parameters,
         next: first.next,

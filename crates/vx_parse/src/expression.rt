@@ -11,9 +11,9 @@ ghost use Rattle.vx_parse.specs.Reading.{Ended, next_kind, Stops, IsOperand, IsB
 use crate::choice::{join, strength, unary_operator};
 use crate::memory::{append, boxed, boxed_closed, boxed_within, closed};
 use crate::stop::Stop;
-use crate::token::{is_mark, kind_at, read_mark, read_name};
+use crate::token::{is_mark, kind_at, place_at, read_mark, read_name};
 use std::alloc::Global;
-use vx_ast::syntax::{Expression, Name};
+use vx_ast::syntax::{Argument, Expression, Name};
 use vx_ast::token::{Mark, Token, TokenKind};
 
 /// The greatest depth of constructs.
@@ -41,11 +41,11 @@ struct IndexRead {
     next: usize,
 }
 
-/// A row of expressions.
+/// A row of arguments.
 #[derive(Drop)]
 pub struct Operands {
-    /// The expressions.
-    pub expressions: Vec<Expression>,
+    /// The arguments.
+    pub arguments: Vec<Argument>,
     /// How deep their constructs stand in each other.
     pub height: u32,
     /// How many tokens stand before what comes next.
@@ -219,11 +219,11 @@ fn read_named(
         });
     }
     if is_mark(kind, Mark::OpenParenthesis) {
-        let arguments = read_called(alloc, tokens, place, depth)?;
+        let called = read_called(alloc, tokens, place, depth)?;
         return Ok(Operand {
-            expression: Expression::Call(name, arguments.expressions),
-            height: arguments.height,
-            next: arguments.next,
+            expression: Expression::Call(name, called.arguments),
+            height: called.height,
+            next: called.next,
         });
     }
     Ok(Operand {
@@ -273,11 +273,11 @@ fn read_called(alloc: Global, tokens: &[Token], place: usize, depth: u32) -> Res
     if depth >= DEEPEST {
         return Err(Stop::TooDeep);
     }
-    let arguments = read_arguments(alloc, tokens, place + 1, depth + 1)?;
+    let inner = read_arguments(alloc, tokens, place + 1, depth + 1)?;
     Ok(Operands {
-        expressions: arguments.expressions,
-        height: 1 + arguments.height,
-        next: read_mark(tokens, arguments.next, Mark::CloseParenthesis)?,
+        arguments: inner.arguments,
+        height: 1 + inner.height,
+        next: read_mark(tokens, inner.next, Mark::CloseParenthesis)?,
     })
 }
 
@@ -295,25 +295,29 @@ fn read_arguments(
     ensures ok { IfOk result (λ r. AreOperands Arguments tokens.now place depth r) }
     ensures stop { IfErr result (λ stop. Stops (A Arguments ∷ []) (drop place tokens.now) tokens.now depth 0 stop) }
 {
-    let mut expressions = Vec::new(alloc);
+    let mut arguments = Vec::new(alloc);
     if is_mark(kind_at(tokens, place), Mark::CloseParenthesis) {
         return Ok(Operands {
-            expressions,
+            arguments,
             height: 0,
             next: place,
         });
     }
     let first = read_expression(alloc, tokens, place, depth)?;
-    append(&mut expressions, first.expression)?;
+    let argument = Argument {
+        place: place_at(tokens, place),
+        expression: first.expression,
+    };
+    append(&mut arguments, argument)?;
     let before = Operands {
-        expressions,
+        arguments,
         height: first.height,
         next: first.next,
     };
     read_more(alloc, tokens, before, depth)
 }
 
-/// Expressions, each behind a comma, put behind others.
+/// Arguments, each behind a comma, put behind others.
 #[cycle(expressions)]
 pub fn read_more(
     alloc: Global,
@@ -333,7 +337,11 @@ pub fn read_more(
             return Ok(all);
         }
         let next = read_expression(alloc, tokens, all.next + 1, depth)?;
-        append(&mut all.expressions, next.expression)?;
+        let argument = Argument {
+            place: place_at(tokens, all.next + 1),
+            expression: next.expression,
+        };
+        append(&mut all.arguments, argument)?;
         all.height = all.height.max(next.height);
         all.next = next.next;
     }

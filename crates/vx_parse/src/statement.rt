@@ -21,7 +21,7 @@ use crate::simple::{read_items, read_simple};
 use crate::stop::Stop;
 use crate::token::{is_mark, is_word, kind_at, place_at, read_mark, read_text, read_word};
 use std::alloc::Global;
-use vx_ast::syntax::{Expression, First, Place, Simple, Statement};
+use vx_ast::syntax::{Argument, Expression, First, Place, Simple, Statement};
 use vx_ast::token::{Keyword, Mark, Token};
 use vx_base::listed::Bytes;
 
@@ -111,7 +111,7 @@ pub struct PrintRead {
     /// The format.
     pub format: Bytes,
     /// The arguments.
-    pub arguments: Vec<Expression>,
+    pub arguments: Vec<Argument>,
     /// How many tokens stand before what comes next.
     pub next: usize,
 }
@@ -293,17 +293,17 @@ fn read_printed(
     let format_place = read_mark(tokens, place + 1, Mark::OpenParenthesis)?;
     let format = read_text(alloc, tokens, format_place)?;
     let before = Operands {
-        expressions: Vec::new(alloc),
+        arguments: Vec::new(alloc),
         height: 0,
         next: format.next,
     };
-    let arguments = read_more(alloc, tokens, before, depth)?;
-    let next = read_mark(tokens, arguments.next, Mark::CloseParenthesis)?;
+    let more = read_more(alloc, tokens, before, depth)?;
+    let next = read_mark(tokens, more.next, Mark::CloseParenthesis)?;
     Ok(PrintRead {
         place: place_at(tokens, place),
         format_place: place_at(tokens, format_place),
         format: format.bytes,
-        arguments: arguments.expressions,
+        arguments: more.arguments,
         next,
     })
 }

@@ -7,7 +7,7 @@ use Rattle.vx_ast.specs.declared.token.Mark.{Mark}
 use Rattle.vx_ast.specs.declared.token.Mark.TheVariants as marks
 use Rattle.vx_ast.specs.declared.token.TokenKind.{TokenKind}
 use Rattle.vx_ast.specs.declared.token.TokenKind.TheVariants as kinds
-use Rattle.vx_ast.specs.Phrases.{Phrase, Program, AfterName, GlobalValue, SignedNumber, MoreGlobals, Parameters, Parameter, MoreParameters, Block, Items, Item, ItemValue, MoreItems, Statement, ElsePart, First, OptionalExpression, OptionalSimple, Print, Simple, SimpleRest, Expression, ChoiceRest, Level, LevelRest, Primary, NameRest, Arguments, MoreExpressions, Part, A, Fits, strength}
+use Rattle.vx_ast.specs.Phrases.{Phrase, Program, AfterName, GlobalValue, SignedNumber, MoreGlobals, Parameters, Parameter, ParameterBrackets, MoreParameters, Block, Items, Item, ItemValue, MoreItems, Statement, ElsePart, First, OptionalExpression, OptionalSimple, Print, Simple, SimpleRest, Expression, ChoiceRest, Level, LevelRest, Primary, NameRest, Arguments, MoreExpressions, Part, A, Fits, strength}
 use Rattle.vx_sources.specs.Productions as productions
 use Rattle.vx_sources.specs.Productions.{IsOneOf, operators, signs, assigns, steps, printf, Production}
 
@@ -41,6 +41,10 @@ begins_signed k = false
 abbrev pub is_int : TokenKind → Bool
 is_int (kinds.Keyword words.Int) = true
 is_int k = false
+
+abbrev pub is_bracket : TokenKind → Bool
+is_bracket (kinds.Mark marks.OpenBracket) = true
+is_bracket k = false
 
 abbrev pub is_brace : TokenKind → Bool
 is_brace (kinds.Mark marks.OpenBrace) = true
@@ -129,6 +133,7 @@ begins SignedNumber k = begins_signed k
 begins MoreGlobals k = is_comma k
 begins Parameters k = begins_program k
 begins Parameter k = is_int k
+begins ParameterBrackets k = is_bracket k
 begins MoreParameters k = is_comma k
 begins Block k = is_brace k
 begins Items k = begins_items k
@@ -158,6 +163,7 @@ Empty Program = Unit {0}
 Empty GlobalValue = Unit {0}
 Empty MoreGlobals = Unit {0}
 Empty Parameters = Unit {0}
+Empty ParameterBrackets = Unit {0}
 Empty MoreParameters = Unit {0}
 Empty Items = Unit {0}
 Empty ItemValue = Unit {0}
@@ -324,6 +330,8 @@ began productions.no_parameter k h = absurd h
 began productions.void_parameters k h = ap begins_program h
 began productions.parameters k h = int_parameters k (only h)
 began productions.parameter k h = ap is_int h
+began productions.no_brackets k h = absurd h
+began productions.brackets k h = ap is_bracket h
 began productions.no_more_parameters k h = absurd h
 began productions.more_parameters k h = ap is_comma h
 began productions.block k h = ap is_brace h
@@ -400,6 +408,8 @@ emptied productions.no_parameter e = tt
 emptied productions.void_parameters e = tt
 emptied productions.parameters e = tt
 emptied productions.parameter e = absurd e
+emptied productions.no_brackets e = tt
+emptied productions.brackets e = tt
 emptied productions.no_more_parameters e = tt
 emptied productions.more_parameters e = tt
 emptied productions.block e = absurd e

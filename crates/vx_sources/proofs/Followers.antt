@@ -4,10 +4,10 @@ use Rattle.std.proofs.lemmas.Bool.{and_parts, eqb-true, ltb-true, lt-ltb}
 use Rattle.vx_ast.specs.declared.token.Mark.TheVariants as marks
 use Rattle.vx_ast.specs.declared.token.TokenKind.{TokenKind}
 use Rattle.vx_ast.specs.declared.token.TokenKind.TheVariants as kinds
-use Rattle.vx_ast.specs.Phrases.{Phrase, Program, GlobalValue, MoreGlobals, Parameters, MoreParameters, Items, Item, ItemValue, MoreItems, First, OptionalExpression, OptionalSimple, Simple, SimpleRest, Expression, ChoiceRest, Level, LevelRest, Primary, NameRest, Arguments, MoreExpressions, Part, A, mark, strength}
+use Rattle.vx_ast.specs.Phrases.{Phrase, Program, GlobalValue, MoreGlobals, Parameters, Parameter, ParameterBrackets, MoreParameters, Items, Item, ItemValue, MoreItems, First, OptionalExpression, OptionalSimple, Simple, SimpleRest, Expression, ChoiceRest, Level, LevelRest, Primary, NameRest, Arguments, MoreExpressions, Part, A, mark, strength}
 use Rattle.vx_sources.specs.Productions as productions
 use Rattle.vx_sources.specs.Productions.{Production}
-use Rattle.vx_sources.proofs.Firsts.{EmptyRow, Starts, begins, begins_name_rest, begins_rest, begins_value, is_comma, is_question}
+use Rattle.vx_sources.proofs.Firsts.{EmptyRow, Starts, begins, begins_name_rest, begins_rest, begins_value, is_bracket, is_comma, is_question}
 
 -- the tokens that may stand behind a phrase
 
@@ -35,7 +35,9 @@ ends Program k = is_end k
 ends GlobalValue k = not (begins_value k)
 ends MoreGlobals k = not (begins_value k) && not (is_comma k)
 ends Parameters k = closes k
-ends MoreParameters k = not (is_comma k)
+ends Parameter k = not (is_bracket k)
+ends ParameterBrackets k = not (is_bracket k)
+ends MoreParameters k = not (is_bracket k) && not (is_comma k)
 ends Items k = closes_block k
 ends Item k = ends_expression k && not (begins_value k)
 ends ItemValue k = ends_expression k && not (begins_value k)
@@ -67,9 +69,17 @@ comma_value : (k : TokenKind) → is_comma k ≡ true → not (begins_value k) �
 comma_value (kinds.Mark marks.Comma) h = refl
 comma_value k h = absurd (cc)
 
-close_comma : (k : TokenKind) → closes k ≡ true → not (is_comma k) ≡ true
-close_comma (kinds.Mark marks.CloseParenthesis) h = refl
-close_comma k h = absurd (cc)
+comma_parameter : (k : TokenKind) → is_comma k ≡ true → not (is_bracket k) ≡ true
+comma_parameter (kinds.Mark marks.Comma) h = refl
+comma_parameter k h = absurd (cc)
+
+close_parameter : (k : TokenKind) → closes k ≡ true → not (is_bracket k) ≡ true
+close_parameter (kinds.Mark marks.CloseParenthesis) h = refl
+close_parameter k h = absurd (cc)
+
+close_parameters : (k : TokenKind) → closes k ≡ true → ends MoreParameters k ≡ true
+close_parameters (kinds.Mark marks.CloseParenthesis) h = refl
+close_parameters k h = absurd (cc)
 
 comma_item : (k : TokenKind) → is_comma k ≡ true → ends Item k ≡ true
 comma_item (kinds.Mark marks.Comma) h = refl
@@ -180,10 +190,12 @@ followed productions.no_more_globals k h = tt
 followed productions.more_globals k h = ((λ j s. comma_value j (alone s)), ((λ e. first_part (not (begins_value k)) (not (is_comma k)) h), ((λ j s. absurd s), ((λ e. h), tt))))
 followed productions.no_parameter k h = tt
 followed productions.void_parameters k h = tt
-followed productions.parameters k h = ((λ j s. refl), ((λ e. refl), ((λ j s. absurd s), ((λ e. close_comma k h), tt))))
-followed productions.parameter k h = tt
+followed productions.parameters k h = ((λ j s. comma_parameter j (alone s)), ((λ e. close_parameter k h), ((λ j s. absurd s), ((λ e. close_parameters k h), tt))))
+followed productions.parameter k h = ((λ j s. absurd s), ((λ e. h), tt))
+followed productions.no_brackets k h = tt
+followed productions.brackets k h = tt
 followed productions.no_more_parameters k h = tt
-followed productions.more_parameters k h = ((λ j s. refl), ((λ e. refl), ((λ j s. absurd s), ((λ e. h), tt))))
+followed productions.more_parameters k h = ((λ j s. comma_parameter j (alone s)), ((λ e. first_part (not (is_bracket k)) (not (is_comma k)) h), ((λ j s. absurd s), ((λ e. h), tt))))
 followed productions.block k h = ((λ j s. ap closes_block s), ((λ e. absurd e), tt))
 followed productions.no_more_statements k h = tt
 followed productions.declaration k h = ((λ j s. items_end (A Items ∷ []) j s), ((λ e. absurd e.1), (((λ j s. ap (ends MoreItems) s), ((λ e. absurd e), (((λ j s. absurd s), ((λ e. h), tt))))))))

@@ -6,7 +6,7 @@ use Rattle.vx_ast.specs.declared.token.TokenKind.TheVariants as kinds
 use Rattle.vx_ast.specs.declared.token.Token.{Token}
 use Rattle.vx_ast.specs.Tree.{Row}
 use Rattle.vx_ast.specs.Phrases as phrases
-use Rattle.vx_ast.specs.Phrases.{Program, AfterName, GlobalValue, MoreGlobals, Statement, ElsePart, Simple, Level, Primary, A, mark, parts_of, Derivation, Leaf, Node, NoMore, Then, Is, Unexpected}
+use Rattle.vx_ast.specs.Phrases.{Program, AfterName, GlobalValue, MoreGlobals, Parameters, Parameter, ParameterBrackets, MoreParameters, Block, Items, Statement, ElsePart, Simple, Level, Primary, A, mark, parts_of, Derivation, Leaf, Node, NoMore, Then, Is, Stuck, IsProgram, Unexpected}
 use Rattle.vx_parse.proofs.Fills.{a_token}
 use Rattle.vx_sources.specs.Productions as productions
 use Rattle.vx_sources.specs.Productions.{operators, printf, Beside, Produces, nothing, token, phrase}
@@ -83,3 +83,42 @@ none_so (phrases.phrase p inner k j i) = cc
 
 alone_unexpected : Unexpected [] (a_token (kinds.Mark marks.Semicolon))
 alone_unexpected = record { before = of_nothing; never = λ other p. none_so p.is }
+
+-- `int f(int a`, with this behind it
+abbrev up_to_a : List Token → List Token
+up_to_a ts = a_token (kinds.Keyword words.Int) ∷ a_token (kinds.Name (codes "f")) ∷ a_token (kinds.Mark marks.OpenParenthesis) ∷ a_token (kinds.Keyword words.Int) ∷ a_token (kinds.Name (codes "a")) ∷ ts
+
+-- `int f(int a[]) {}` is a program
+array_parameter : IsProgram (up_to_a (a_token (kinds.Mark marks.OpenBracket) ∷ a_token (kinds.Mark marks.CloseBracket) ∷ a_token (kinds.Mark marks.CloseParenthesis) ∷ a_token (kinds.Mark marks.OpenBrace) ∷ a_token (kinds.Mark marks.CloseBrace) ∷ a_token kinds.End ∷ []))
+unfolding parts_of
+array_parameter = record {
+  derivation = _;
+  ended = a_token kinds.End;
+  last = refl;
+  is =
+      phrases.phrase Program _ refl
+      (phrases.token refl (phrases.token (codes "f", refl) (phrases.phrase AfterName _ refl
+      (phrases.token refl (phrases.phrase Parameters _ refl
+      (phrases.phrase Parameter _ refl (phrases.token refl (phrases.token (codes "a", refl) (phrases.phrase ParameterBrackets _ refl (phrases.token refl (phrases.token refl phrases.nothing)) phrases.nothing)))
+      (phrases.phrase MoreParameters _ refl phrases.nothing phrases.nothing))
+      (phrases.token refl (phrases.phrase Block _ refl (phrases.token refl (phrases.phrase Items _ refl phrases.nothing (phrases.token refl phrases.nothing))) phrases.nothing))))
+      (phrases.phrase Program _ refl phrases.nothing phrases.nothing)))) phrases.nothing;
+}
+
+-- what stands behind the bracket of such a parameter and does not close it, no program goes on with
+behind_bracket : (t : Token) (ts : List Token) → (t.kind ≡ kinds.Mark marks.CloseBracket → ⊥) → (d : Derivation Row) × Stuck (A Program ∷ []) (up_to_a (a_token (kinds.Mark marks.OpenBracket) ∷ t ∷ ts)) d (t ∷ ts)
+unfolding parts_of
+behind_bracket t ts n = (
+  _,
+  phrases.inside Program _ refl
+      (phrases.behind refl (phrases.behind (codes "f", refl) (phrases.inside AfterName _ refl
+      (phrases.behind refl (phrases.inside Parameters _ refl
+      (phrases.inside Parameter _ refl (phrases.behind refl (phrases.behind (codes "a", refl) (phrases.inside ParameterBrackets _ refl (phrases.behind refl (phrases.unfit (λ p e. cc) n))))))))))),
+)
+
+-- `int f(int a[3` stops at the 3, and `int f(int a[)` at the parenthesis
+with_size : (ts : List Token) → (d : Derivation Row) × Stuck (A Program ∷ []) (up_to_a (a_token (kinds.Mark marks.OpenBracket) ∷ a_token (kinds.Number (pos 3)) ∷ ts)) d (a_token (kinds.Number (pos 3)) ∷ ts)
+with_size ts = behind_bracket (a_token (kinds.Number (pos 3))) ts (λ e. cc)
+
+half_open : (ts : List Token) → (d : Derivation Row) × Stuck (A Program ∷ []) (up_to_a (a_token (kinds.Mark marks.OpenBracket) ∷ a_token (kinds.Mark marks.CloseParenthesis) ∷ ts)) d (a_token (kinds.Mark marks.CloseParenthesis) ∷ ts)
+half_open ts = behind_bracket (a_token (kinds.Mark marks.CloseParenthesis)) ts (λ e. cc)

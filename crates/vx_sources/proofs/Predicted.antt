@@ -11,13 +11,13 @@ use Rattle.vx_ast.specs.declared.token.TokenKind.TheVariants as kinds
 use Rattle.vx_ast.specs.declared.token.Token.{Token}
 use Rattle.vx_ast.specs.Tree.{Row}
 use Rattle.vx_ast.specs.Phrases as phrases
-use Rattle.vx_ast.specs.Phrases.{Phrase, Program, AfterName, GlobalValue, SignedNumber, MoreGlobals, Parameters, Parameter, MoreParameters, Block, Items, ItemValue, MoreItems, Statement, ElsePart, First, OptionalExpression, OptionalSimple, Print, Simple, SimpleRest, Expression, ChoiceRest, Level, LevelRest, Primary, NameRest, Arguments, MoreExpressions, Part, The, AName, ANumber, AString, A, Fits, mark, strength, parts_of, Derivation, Node, Then, Is}
+use Rattle.vx_ast.specs.Phrases.{Phrase, Program, AfterName, GlobalValue, SignedNumber, MoreGlobals, Parameters, Parameter, ParameterBrackets, MoreParameters, Block, Items, ItemValue, MoreItems, Statement, ElsePart, First, OptionalExpression, OptionalSimple, Print, Simple, SimpleRest, Expression, ChoiceRest, Level, LevelRest, Primary, NameRest, Arguments, MoreExpressions, Part, The, AName, ANumber, AString, A, Fits, mark, strength, parts_of, Derivation, Node, Then, Is}
 use Rattle.vx_parse.specs.Reading.{next_kind}
 use Rattle.vx_sources.specs.Productions as productions
 use Rattle.vx_sources.specs.Productions.{IsOneOf, operators, signs, assigns, steps, printf, Production, Beside, Produces, nothing, token, phrase, TableIsProductions}
 use Rattle.std.specs.Cmp.Lexicographic.{same_text}
 use Rattle.vx_sources.proofs.Produced.{program_produced}
-use Rattle.vx_sources.proofs.Firsts.{EmptyRow, Starts, begins_expression, begins_name_rest, begins_primary, begins_rest, begins_simple, begins_statement, begins_value, is_brace, is_comma, is_int, is_printf, each, an_operator, began, emptied}
+use Rattle.vx_sources.proofs.Firsts.{EmptyRow, Starts, begins_expression, begins_name_rest, begins_primary, begins_rest, begins_simple, begins_statement, begins_value, is_brace, is_bracket, is_comma, is_int, is_printf, each, an_operator, began, emptied}
 use Rattle.vx_sources.proofs.Followers.{Ends, closes, closes_block, ends, ends_expression, is_end, is_semicolon, followed}
 
 -- the table's row where a production's is due
@@ -84,7 +84,12 @@ unfolding parts_of
 parameters_some (kinds.Keyword words.Int) h = refl
 parameters_some k h = absurd (cc)
 
-more_parameters_none : (k : TokenKind) → not (is_comma k) ≡ true → parts_of MoreParameters k ≡ Some ([])
+brackets_none : (k : TokenKind) → not (is_bracket k) ≡ true → parts_of ParameterBrackets k ≡ Some ([])
+unfolding parts_of
+brackets_none (kinds.Mark marks.OpenBracket) h = absurd (cc)
+brackets_none k h = refl
+
+more_parameters_none : (k : TokenKind) → ends MoreParameters k ≡ true → parts_of MoreParameters k ≡ Some ([])
 unfolding parts_of
 more_parameters_none (kinds.Mark marks.Comma) h = absurd (cc)
 more_parameters_none k h = refl
@@ -309,6 +314,8 @@ predicted productions.no_parameter here mid b h = same (parameters_none (next_ki
 predicted productions.void_parameters here mid b h = same (ap (parts_of Parameters) (filled h))
 predicted productions.parameters here mid b h = same (parameters_some (next_kind here) (phrase_filled h))
 predicted productions.parameter here mid b h = same refl
+predicted productions.no_brackets here mid b h = same (brackets_none (next_kind here) (bare h))
+predicted productions.brackets here mid b h = same (ap (parts_of ParameterBrackets) (filled h))
 predicted productions.no_more_parameters here mid b h = same (more_parameters_none (next_kind here) (bare h))
 predicted productions.more_parameters here mid b h = same (ap (parts_of MoreParameters) (filled h))
 predicted productions.block here mid b h = same refl

@@ -11,7 +11,7 @@ use Rattle.vx_ast.specs.declared.token.TokenKind.TheVariants as kinds
 use Rattle.vx_ast.specs.declared.token.Token.{Token}
 use Rattle.vx_ast.specs.Tree.{Row}
 use Rattle.vx_ast.specs.Phrases as phrases
-use Rattle.vx_ast.specs.Phrases.{Phrase, Program, AfterName, GlobalValue, SignedNumber, MoreGlobals, Parameters, Parameter, MoreParameters, Block, Items, Item, ItemValue, MoreItems, Statement, ElsePart, First, OptionalExpression, OptionalSimple, Print, Simple, SimpleRest, Expression, ChoiceRest, Level, LevelRest, Primary, NameRest, Arguments, MoreExpressions, Part, The, AName, ANumber, AString, A, Fits, mark, strength, parts_of, Derivation, Is}
+use Rattle.vx_ast.specs.Phrases.{Phrase, Program, AfterName, GlobalValue, SignedNumber, MoreGlobals, Parameters, Parameter, ParameterBrackets, MoreParameters, Block, Items, Item, ItemValue, MoreItems, Statement, ElsePart, First, OptionalExpression, OptionalSimple, Print, Simple, SimpleRest, Expression, ChoiceRest, Level, LevelRest, Primary, NameRest, Arguments, MoreExpressions, Part, The, AName, ANumber, AString, A, Fits, mark, strength, parts_of, Derivation, Is}
 use Rattle.vx_parse.specs.Reading.{next_kind}
 use Rattle.vx_sources.proofs.Fits.{is_part}
 use Rattle.vx_sources.proofs.Rules.{takes, takes_row, leads, rank, is_fine, fine}
@@ -177,6 +177,8 @@ chosen Parameters (kinds.Mark marks.CloseParenthesis) h g = usual productions.no
 chosen Parameters (kinds.Keyword words.Void) h g = usual productions.void_parameters (λ here mid. tt) refl
 chosen Parameters t h g = usual productions.parameters (λ here mid. tt) refl
 chosen Parameter t h g = usual productions.parameter (λ here mid. tt) refl
+chosen ParameterBrackets (kinds.Mark marks.OpenBracket) h g = usual productions.brackets (λ here mid. tt) refl
+chosen ParameterBrackets t h g = usual productions.no_brackets (λ here mid. tt) refl
 chosen MoreParameters (kinds.Mark marks.Comma) h g = usual productions.more_parameters (λ here mid. tt) refl
 chosen MoreParameters t h g = usual productions.no_more_parameters (λ here mid. tt) refl
 chosen Block t h g = usual productions.block (λ here mid. tt) refl

@@ -7,7 +7,7 @@ use Rattle.vx_ast.specs.declared.token.Keyword.TheVariants as words
 use Rattle.vx_ast.specs.declared.token.Mark.TheVariants as marks
 use Rattle.vx_ast.specs.declared.token.TokenKind.{TokenKind}
 use Rattle.vx_ast.specs.declared.token.TokenKind.TheVariants as kinds
-use Rattle.vx_ast.specs.Phrases.{Phrase, Program, AfterName, GlobalValue, SignedNumber, MoreGlobals, Parameters, Parameter, MoreParameters, Block, Items, Item, ItemValue, MoreItems, Statement, ElsePart, First, OptionalExpression, OptionalSimple, Print, Simple, SimpleRest, Expression, ChoiceRest, Level, LevelRest, Primary, NameRest, Arguments, MoreExpressions, Part, The, A, mark, strength, parts_of}
+use Rattle.vx_ast.specs.Phrases.{Phrase, Program, AfterName, GlobalValue, SignedNumber, MoreGlobals, Parameters, Parameter, ParameterBrackets, MoreParameters, Block, Items, Item, ItemValue, MoreItems, Statement, ElsePart, First, OptionalExpression, OptionalSimple, Print, Simple, SimpleRest, Expression, ChoiceRest, Level, LevelRest, Primary, NameRest, Arguments, MoreExpressions, Part, The, A, mark, strength, parts_of}
 use Rattle.vx_sources.proofs.Fits.{is_part}
 
 -- a phrase begins with phrases of lower rank alone, as far as no token is taken
@@ -93,6 +93,8 @@ fine Parameters (kinds.Mark marks.CloseParenthesis) h = refl
 fine Parameters (kinds.Keyword words.Void) h = refl
 fine Parameters t h = refl
 fine Parameter t h = refl
+fine ParameterBrackets (kinds.Mark marks.OpenBracket) h = refl
+fine ParameterBrackets t h = refl
 fine MoreParameters (kinds.Mark marks.Comma) h = refl
 fine MoreParameters t h = refl
 fine Block t h = refl

@@ -10,7 +10,7 @@ use Rattle.vx_ast.specs.declared.token.TokenKind.{TokenKind}
 use Rattle.vx_ast.specs.declared.token.TokenKind.TheVariants as kinds
 use Rattle.vx_ast.specs.declared.token.Token.{Token}
 use Rattle.vx_ast.specs.Tree.{Row}
-use Rattle.vx_ast.specs.Phrases.{Phrase, Program, AfterName, GlobalValue, SignedNumber, MoreGlobals, Parameters, Parameter, MoreParameters, Block, Items, Item, ItemValue, MoreItems, Statement, ElsePart, First, OptionalExpression, OptionalSimple, Print, Simple, SimpleRest, Expression, ChoiceRest, Level, LevelRest, Primary, NameRest, Arguments, MoreExpressions, Part, The, AName, ANumber, AString, A, mark, word, Fits, Derivation, Leaf, Node, NoMore, Then, Is}
+use Rattle.vx_ast.specs.Phrases.{Phrase, Program, AfterName, GlobalValue, SignedNumber, MoreGlobals, Parameters, Parameter, ParameterBrackets, MoreParameters, Block, Items, Item, ItemValue, MoreItems, Statement, ElsePart, First, OptionalExpression, OptionalSimple, Print, Simple, SimpleRest, Expression, ChoiceRest, Level, LevelRest, Primary, NameRest, Arguments, MoreExpressions, Part, The, AName, ANumber, AString, A, mark, word, Fits, Derivation, Leaf, Node, NoMore, Then, Is}
 use Rattle.vx_parse.specs.Reading.{next_kind}
 
 abbrev pub IsOneOf : Mark → List Mark → Type 0
@@ -65,11 +65,13 @@ pub data Production : Phrase → List Part → Type 0 where
   negative : Production SignedNumber (mark Minus ∷ ANumber ∷ [])
   no_more_globals : Production MoreGlobals []
   more_globals : Production MoreGlobals (mark Comma ∷ AName ∷ A GlobalValue ∷ A MoreGlobals ∷ [])
-  -- parameters = [ "void" | param { "," param } ], param = "int" NAME
+  -- parameters = [ "void" | param { "," param } ], param = "int" NAME [ "[" "]" ]
   no_parameter : Production Parameters []
   void_parameters : Production Parameters (word Void ∷ [])
   parameters : Production Parameters (A Parameter ∷ A MoreParameters ∷ [])
-  parameter : Production Parameter (word Int ∷ AName ∷ [])
+  parameter : Production Parameter (word Int ∷ AName ∷ A ParameterBrackets ∷ [])
+  no_brackets : Production ParameterBrackets []
+  brackets : Production ParameterBrackets (mark OpenBracket ∷ mark CloseBracket ∷ [])
   no_more_parameters : Production MoreParameters []
   more_parameters : Production MoreParameters (mark Comma ∷ A Parameter ∷ A MoreParameters ∷ [])
   -- block = "{" { "int" item { "," item } ";" | statement } "}"

@@ -15,7 +15,7 @@ returns-then-not-is_mark-clause-ok c =
 
 pub parameters-preserved : goal.parameters-preserved
 parameters-preserved c =
-    gathers_next c.in_ok-parameter.parameter.name c.parameters.invariant c.in_ok-parameter.ensures.ok c.in_ok-push.ensures.ok
+    gathers_next c.in_ok-parameter.parameter.parameter c.parameters.invariant c.in_ok-parameter.ensures.ok c.in_ok-push.ensures.ok
 
 pub read_next_parameter-requires-clause-ended : goal.read_next_parameter-requires-clause-ended
 read_next_parameter-requires-clause-ended c = c.requires.ended

@@ -13,7 +13,7 @@ read_parameter-requires-clause-within c =
 pub returns-clause-ok : goal.returns-clause-ok
 returns-clause-ok c =
     let p = passes_mark c.args.tokens.now c.args.place marks.Comma c.requires.ended c.requires.within c.requires.comma in
-    map_ok c.read_parameter.result (λ r w. next_parameter c.args.tokens.now c.args.place r.next r.name p c.requires.within c.requires.comma w) c.read_parameter.ensures.ok
+    map_ok c.read_parameter.result (λ r w. next_parameter c.args.tokens.now c.args.place r.next r.parameter p c.requires.within c.requires.comma w) c.read_parameter.ensures.ok
 
 pub returns-clause-stop : goal.returns-clause-stop
 returns-clause-stop c =

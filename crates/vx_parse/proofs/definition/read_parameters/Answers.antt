@@ -30,7 +30,7 @@ pub returns-clause-ok : goal.returns-clause-ok
 returns-clause-ok c =
     let n1 : next_kind (drop c.args.place c.args.tokens.now) ≡ kinds.Mark marks.CloseParenthesis → ⊥ = λ e. c.is_mark.ensures.no c.if-is_mark.false (c.kind_at-kind.ensures ∙ e) in
     let n2 : next_kind (drop c.args.place c.args.tokens.now) ≡ kinds.Keyword words.Void → ⊥ = λ e. c.is_word.ensures.no c.if-is_word.false (c.kind_at-kind.ensures ∙ e) in
-    let items : c.push.new.self ≡ c.in_ok-first.first.name ∷ [] = c.in_ok-push.ensures.ok ∙ ap (λ l. l ++ (c.in_ok-first.first.name ∷ [])) c.new-parameters.ensures in
+    let items : c.push.new.self ≡ c.in_ok-first.first.parameter ∷ [] = c.in_ok-push.ensures.ok ∙ ap (λ l. l ++ (c.in_ok-first.first.parameter ∷ [])) c.new-parameters.ensures in
     map_ok c.read_more_parameters.result (λ r w. some_parameters c.args.tokens.now c.args.place c.in_ok-first.first _ r c.requires.within n1 n2 c.in_ok-first.ensures.ok items refl w) c.read_more_parameters.ensures.ok
 
 pub returns-clause-stop : goal.returns-clause-stop

@@ -9,6 +9,7 @@ use Rattle.vx_ast.specs.Phrases.{Level, Primary, A, mark, parts_of, strength}
 use Rattle.vx_ast.specs.Tree.{One}
 use Rattle.vx_ast.specs.declared.tree.UnaryOperator.{UnaryOperator}
 use Rattle.vx_ast.specs.Derivations.{unary_of, joined}
+use Rattle.vx_ast.specs.declared.syntax.Argument.{Argument}
 use Rattle.vx_parse.specs.declared.expression.Operand.{Operand}
 use Rattle.vx_parse.specs.Reading.{next_kind, Stops, IsOperand, Passed}
 use Rattle.vx_parse.proofs.HandedOn.{handed_on}
@@ -29,7 +30,7 @@ two p q = cc
 pub read_arguments-returns-then-is_mark-clause-ok : goal.read_arguments-returns-then-is_mark-clause-ok
 read_arguments-returns-then-is_mark-clause-ok t c =
     let k : next_kind (drop c.args.place c.args.tokens.now) ≡ kinds.Mark marks.CloseParenthesis = sym c.kind_at.ensures ∙ c.is_mark.ensures.yes c.if-is_mark.true in
-    no_arguments c.args.tokens.now c.args.place c.args.depth _ c.requires.within c.requires.depth k c.new-expressions.ensures.items refl refl
+    no_arguments c.args.tokens.now c.args.place c.args.depth _ c.requires.within c.requires.depth k c.new-arguments.ensures.items refl refl
 
 pub read_arguments-returns-in_err-first-clause-stop : goal.read_arguments-returns-in_err-first-clause-stop
 read_arguments-returns-in_err-first-clause-stop t c =
@@ -39,8 +40,9 @@ read_arguments-returns-in_err-first-clause-stop t c =
 pub read_arguments-returns-clause-ok : goal.read_arguments-returns-clause-ok
 read_arguments-returns-clause-ok t c =
     let n : next_kind (drop c.args.place c.args.tokens.now) ≡ kinds.Mark marks.CloseParenthesis → ⊥ = λ e. c.is_mark.ensures.no c.if-is_mark.false (c.kind_at.ensures ∙ e) in
-    let items : c.append.new.items.items ≡ c.in_ok-first.first.expression ∷ [] = c.in_ok-append.ensures.ok ∙ ap (λ l. l ++ (c.in_ok-first.first.expression ∷ [])) c.new-expressions.ensures.items in
-    map_ok c.read_more.result (λ r. arguments_are c.args.tokens.now c.args.place c.args.depth c.in_ok-first.first _ r c.requires.within n c.in_ok-first.ensures.ok items refl refl) c.read_more.ensures.ok
+    let argument : Argument = record { place = c.place_at.result; expression = c.in_ok-first.first.expression } in
+    let items : c.append.new.items.items ≡ argument ∷ [] = c.in_ok-append.ensures.ok ∙ ap (λ l. l ++ (argument ∷ [])) c.new-arguments.ensures.items in
+    map_ok c.read_more.result (λ r. arguments_are c.args.tokens.now c.args.place c.args.depth c.in_ok-first.first argument _ r c.requires.within n c.in_ok-first.ensures.ok c.place_at.ensures refl items refl refl) c.read_more.ensures.ok
 
 pub read_arguments-returns-clause-stop : goal.read_arguments-returns-clause-stop
 read_arguments-returns-clause-stop t c =
@@ -162,7 +164,7 @@ pub read_more-more-preserved : goal.read_more-more-preserved
 read_more-more-preserved t c =
     let q : next_kind (drop c.more.all.next c.args.tokens.now) ≡ kinds.Mark marks.Comma = sym c.kind_at.ensures ∙ c.is_mark.ensures.yes c.if-not-is_mark.false in
     let o = comma_opens c.args.tokens.now c.more.all.next c.requires.ended c.more.invariant.within q in
-    gathers_more c.args.before c.args.tokens.now c.args.depth c.more.all _ c.in_ok-next.next c.requires.ended c.more.invariant q c.in_ok-next.ensures.ok c.in_ok-append.ensures.ok c.max.ensures refl
+    gathers_more c.args.before c.args.tokens.now c.args.depth c.more.all _ c.in_ok-next.next (record { place = c.place_at.result; expression = c.in_ok-next.next.expression }) c.requires.ended c.more.invariant q c.in_ok-next.ensures.ok c.place_at.ensures refl c.in_ok-append.ensures.ok c.max.ensures refl
 
 pub read_index-returns-then-depth-ge-DEEPEST-clause-stop : goal.read_index-returns-then-depth-ge-DEEPEST-clause-stop
 read_index-returns-then-depth-ge-DEEPEST-clause-stop t c =
@@ -196,28 +198,28 @@ read_called-read_arguments-requires t c =
     let b : c.args.depth < 200 = let x = c.if-depth-ge-DEEPEST.false in omega arith in
     (further_falls (length c.args.tokens.now) c.args.place (c.args.place + 1) 21 3 t c.decreases c.requires.within (one_on c.args.place) below_21, (c.requires.ended, (o.passed.within, one_on_within c.args.depth b)))
 
-pub read_called-returns-in_err-arguments-clause-stop : goal.read_called-returns-in_err-arguments-clause-stop
-read_called-returns-in_err-arguments-clause-stop t c =
+pub read_called-returns-in_err-inner-clause-stop : goal.read_called-returns-in_err-inner-clause-stop
+read_called-returns-in_err-inner-clause-stop t c =
     let o = call_opens c.args.tokens.now c.args.place c.requires.ended c.requires.within c.requires.here in
-    handed_on _ _ _ c.from_residual.ensures.1 (enclosed_inner c.args.depth _ o c.in_err-arguments.ensures.stop)
+    handed_on _ _ _ c.from_residual.ensures.1 (enclosed_inner c.args.depth _ o c.in_err-inner.ensures.stop)
 
 pub read_called-returns-in_err-read_mark-clause-stop : goal.read_called-returns-in_err-read_mark-clause-stop
 read_called-returns-in_err-read_mark-clause-stop t c =
     let o = call_opens c.args.tokens.now c.args.place c.requires.ended c.requires.within c.requires.here in
-    let a = c.in_ok-arguments.ensures.ok in
+    let a = c.in_ok-inner.ensures.ok in
     handed_on _ _ _ c.from_residual-in_err-read_mark.ensures.1 (enclosed_end c.args.depth _ o a.is (operands_bound a) a.within c.in_err-read_mark.ensures.stop)
 
 pub read_called-returns-clause-ok : goal.read_called-returns-clause-ok
 read_called-returns-clause-ok t c =
     let o = call_opens c.args.tokens.now c.args.place c.requires.ended c.requires.within c.requires.here in
-    λ name made e h n. call_is c.args.tokens.now c.args.place c.args.depth name c.in_ok-arguments.arguments made o c.in_ok-arguments.ensures.ok (subst (λ z. Passed (mark marks.CloseParenthesis) c.args.tokens.now c.in_ok-arguments.arguments.next z) (sym n) c.in_ok-read_mark.ensures.ok) e h
+    λ name made e h n. call_is c.args.tokens.now c.args.place c.args.depth name c.in_ok-inner.inner made o c.in_ok-inner.ensures.ok (subst (λ z. Passed (mark marks.CloseParenthesis) c.args.tokens.now c.in_ok-inner.inner.next z) (sym n) c.in_ok-read_mark.ensures.ok) e h
 
 pub read_named-returns-then-is_mark-clause-ok : goal.read_named-returns-then-is_mark-clause-ok
 read_named-returns-then-is_mark-clause-ok t c = c.in_ok-index.ensures.ok c.args.name _ refl refl refl
 
 pub read_named-returns-then-is_mark-2-clause-ok : goal.read_named-returns-then-is_mark-2-clause-ok
 read_named-returns-then-is_mark-2-clause-ok t c =
-    c.in_ok-arguments.ensures.ok c.args.name _ (view-Call c.args.name c.in_ok-arguments.arguments.expressions) refl refl
+    c.in_ok-called.ensures.ok c.args.name _ (view-Call c.args.name c.in_ok-called.called.arguments) refl refl
 
 pub read_named-returns-clause-ok : goal.read_named-returns-clause-ok
 read_named-returns-clause-ok t c =
@@ -378,7 +380,7 @@ pub read_called-read_mark-requires-clause-ended : goal.read_called-read_mark-req
 read_called-read_mark-requires-clause-ended t c = c.requires.ended
 
 pub read_called-read_mark-requires-clause-within : goal.read_called-read_mark-requires-clause-within
-read_called-read_mark-requires-clause-within t c = c.in_ok-arguments.ensures.ok.within
+read_called-read_mark-requires-clause-within t c = c.in_ok-inner.ensures.ok.within
 
 pub read_primary-read_name-requires-clause-ended : goal.read_primary-read_name-requires-clause-ended
 read_primary-read_name-requires-clause-ended t c = c.requires.ended
@@ -400,6 +402,14 @@ read_arguments-kind_at-requires t c = c.requires.within
 
 pub read_behind-kind_at-kind-requires : goal.read_behind-kind_at-kind-requires
 read_behind-kind_at-kind-requires t c = c.requires.within
+
+pub read_arguments-place_at-requires : goal.read_arguments-place_at-requires
+read_arguments-place_at-requires t c = c.requires.within
+
+pub read_more-place_at-requires : goal.read_more-place_at-requires
+read_more-place_at-requires t c =
+    let q : next_kind (drop c.more.all.next c.args.tokens.now) ≡ kinds.Mark marks.Comma = sym c.kind_at.ensures ∙ c.is_mark.ensures.yes c.if-not-is_mark.false in
+    (comma_opens c.args.tokens.now c.more.all.next c.requires.ended c.more.invariant.within q).passed.within
 
 pub read_more-kind_at-requires : goal.read_more-kind_at-requires
 read_more-kind_at-requires t c = c.more.invariant.within
@@ -443,8 +453,8 @@ read_more-returns-in_err-append-clause-stop t c = handed_on _ _ _ c.from_residua
 pub read_named-returns-in_err-index-clause-stop : goal.read_named-returns-in_err-index-clause-stop
 read_named-returns-in_err-index-clause-stop t c = handed_on _ _ _ c.from_residual.ensures.1 c.in_err-index.ensures.stop
 
-pub read_named-returns-in_err-arguments-clause-stop : goal.read_named-returns-in_err-arguments-clause-stop
-read_named-returns-in_err-arguments-clause-stop t c = handed_on _ _ _ c.from_residual-in_err-arguments.ensures.1 c.in_err-arguments.ensures.stop
+pub read_named-returns-in_err-called-clause-stop : goal.read_named-returns-in_err-called-clause-stop
+read_named-returns-in_err-called-clause-stop t c = handed_on _ _ _ c.from_residual-in_err-called.ensures.1 c.in_err-called.ensures.stop
 
 pub read_level-returns-then-level-eq0-clause-stop : goal.read_level-returns-then-level-eq0-clause-stop
 read_level-returns-then-level-eq0-clause-stop t c = subst (λ n. IfErr c.read_unary.result (λ s. Stops (A (Level n) ∷ []) (drop c.args.place c.args.tokens.now) c.args.tokens.now c.args.depth 0 s)) (sym c.if-level-eq0.true) c.read_unary.ensures.stop
@@ -486,7 +496,7 @@ pub read_unary-overflow_add-result : goal.read_unary-overflow_add-result
 read_unary-overflow_add-result t c = height_fits c.args.depth c.in_ok-operand-in-Some.operand.height c.in_ok-operand-in-Some.ensures.ok.shallow
 
 pub read_called-overflow_add-result : goal.read_called-overflow_add-result
-read_called-overflow_add-result t c = height_fits c.args.depth c.in_ok-arguments.arguments.height c.in_ok-arguments.ensures.ok.shallow
+read_called-overflow_add-result t c = height_fits c.args.depth c.in_ok-inner.inner.height c.in_ok-inner.ensures.ok.shallow
 
 pub read_expression-boxed_closed-requires-clause-ended : goal.read_expression-boxed_closed-requires-clause-ended
 read_expression-boxed_closed-requires-clause-ended t c =
