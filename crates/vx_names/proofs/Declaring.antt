@@ -5,7 +5,7 @@ use Rattle.vx_ast.specs.declared.syntax.Name.{Name}
 use Rattle.vx_ast.specs.declared.syntax.Size.{Size}
 use Rattle.vx_ast.specs.declared.names.Named.{Named}
 use Rattle.vx_ast.specs.declared.names.Named.TheVariants.{Scalar as AScalar, Array as AnArray}
-use Rattle.vx_ast.specs.Scopes.{Environment, Known, declared, with_scalar, with_array, is_at, look}
+use Rattle.vx_ast.specs.Scopes.{Environment, Known, declared, with_scalar, with_array, with_handed, is_at, look}
 
 -- names that are forgotten one by one
 
@@ -68,8 +68,14 @@ with_scalar_is x env middle last n p q r =
     r ∙ ap (λ (z : Environment). record z { scalars = z.scalars + 1 }) (q ∙ ap (λ (k : ℕ). declared x.bytes (AScalar k) env) p)
     ∙ ap (λ (k : ℕ). record (declared x.bytes (AScalar env.scalars) env) { scalars = k + 1 }) (declared_counts x.bytes (AScalar env.scalars) env).0
 
-pub with_array_is : (a : Name) (size : Size) (env middle last : Environment) (n : ℕ) → n ≡ env.arrays → middle ≡ declared a.bytes (AnArray n) env → last ≡ record middle { arrays = middle.arrays + 1; sizes = middle.sizes ++ size.words ∷ [] } → last ≡ with_array a size env
-with_array_is a size env middle last n p q r =
-    r ∙ ap (λ (z : Environment). record z { arrays = z.arrays + 1; sizes = z.sizes ++ size.words ∷ [] }) (q ∙ ap (λ (k : ℕ). declared a.bytes (AnArray k) env) p)
+pub with_array_is : (a : Name) (size : Size) (env middle counted last : Environment) (n : ℕ) → n ≡ env.arrays → middle ≡ declared a.bytes (AnArray n) env → counted ≡ record middle { arrays = middle.arrays + 1 } → last ≡ record counted { sizes = counted.sizes ++ size.words ∷ [] } → last ≡ with_array a size env
+with_array_is a size env middle counted last n p q r s =
+    s ∙ ap (λ (z : Environment). record z { sizes = z.sizes ++ size.words ∷ [] }) (r ∙ ap (λ (z : Environment). record z { arrays = z.arrays + 1 }) (q ∙ ap (λ (k : ℕ). declared a.bytes (AnArray k) env) p))
     ∙ ap (λ (k : ℕ). record (declared a.bytes (AnArray env.arrays) env) { arrays = k + 1; sizes = (declared a.bytes (AnArray env.arrays) env).sizes ++ size.words ∷ [] }) (declared_counts a.bytes (AnArray env.arrays) env).1
     ∙ ap (λ (k : List ℕ). record (declared a.bytes (AnArray env.arrays) env) { arrays = env.arrays + 1; sizes = k ++ size.words ∷ [] }) (declared_counts a.bytes (AnArray env.arrays) env).2
+
+-- an array that is handed over
+pub handed_is : (a : Name) (env middle last : Environment) (n : ℕ) → n ≡ env.arrays → middle ≡ declared a.bytes (AnArray n) env → last ≡ record middle { arrays = middle.arrays + 1 } → last ≡ with_handed a env
+handed_is a env middle last n p q r =
+    r ∙ ap (λ (z : Environment). record z { arrays = z.arrays + 1 }) (q ∙ ap (λ (k : ℕ). declared a.bytes (AnArray k) env) p)
+    ∙ ap (λ (k : ℕ). record (declared a.bytes (AnArray env.arrays) env) { arrays = k + 1 }) (declared_counts a.bytes (AnArray env.arrays) env).1

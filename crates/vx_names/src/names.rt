@@ -1,8 +1,8 @@
 // The names that are known at a place. Each name is looked up in a table, and each declaration notes what the name
 // stood for before, so that a scope is left in the time of its own declarations.
 
-ghost use Rattle.std.specs.Prelude.{◌≡◌, ◌+◌, ◌-◌, ◌<◌, ℕ, List, [], ◌∷◌, ◌++◌, None, length, drop, take, IfOk, OnOk};
-ghost use Rattle.vx_ast.specs.Scopes.{declared, find, inside, is_at, is_predeclared, is_taken, known_of, look, named, predeclared, with_array, with_scalar};
+ghost use Rattle.std.specs.Prelude.{◌≡◌, ◌+◌, ◌-◌, ◌<◌, ℕ, List, [], ◌∷◌, ◌++◌, None, length, drop, take, slice_index_or, IfOk, OnOk};
+ghost use Rattle.vx_ast.specs.Scopes.{declared, find, inside, is_at, is_predeclared, is_taken, known_of, look, named, predeclared, wanted_by, with_array, with_handed, with_parameter, with_scalar};
 ghost use Rattle.vx_ast.specs.Faults.{is_repeated};
 ghost use Rattle.vx_names.specs.Agrees.{Sees};
 ghost use Rattle.vx_names.specs.Entries.{entry_of, started};
@@ -13,6 +13,7 @@ use std::alloc::Global;
 use std::marker::Model;
 use std::mem;
 use vx_ast::names::{FileName, Meant, Named};
+use vx_ast::tree::Takes;
 use vx_base::listed::{Bytes, Listed, copied};
 use vx_base::outcome::NoMemory;
 
@@ -28,6 +29,7 @@ pub struct Names {
     scalars: u32,
     arrays: u32,
     sizes: Listed<u32>,
+    takes: Listed<Listed<Takes>>,
 }
 
 impl Model for Names {
@@ -38,7 +40,7 @@ impl Model for Names {
 
     ghost Value = { Environment };
 
-    ghost view = { λ s. record { depth = s.depth; locals = known_in (reverse s.locals.items); names = s.names; above = s.above; scalars = s.scalars; arrays = s.arrays; sizes = s.sizes } };
+    ghost view = { λ s. record { depth = s.depth; locals = known_in (reverse s.locals.items); names = s.names; above = s.above; scalars = s.scalars; arrays = s.arrays; sizes = s.sizes; takes = s.takes } };
 
     ghost invariant = { λ s. Agrees (λ x. entry_of x s.table.entries.entries) (reverse s.locals.items) (predeclared ++ known_of s.above s.names) × Sees (λ x. entry_of x s.seen.entries.entries) (take s.above s.names) };
 }
@@ -162,10 +164,24 @@ fn is_at(depth: u32, meant: Option<Meant>) -> bool
     }
 }
 
+// What a function takes, by its number in a table of what all functions take.
+fn taken(takes: &[Listed<Takes>], function: u32) -> &[Takes]
+    ensures { result.now ≡ slice_index_or takes.now function [] }
+{
+    match takes.get(function as usize) {
+        Some(taken) => taken.as_slice(),
+        None => &[],
+    }
+}
+
 impl Names {
-    /// What is known before the first definition of a file with these names.
-    pub fn new(alloc: Global, names: Listed<FileName>) -> Result<Names, NoMemory>
-        ensures { IfOk result (λ made. made ≡ record { depth = 0; locals = []; names = names; above = 0; scalars = 0; arrays = 0; sizes = [] }) }
+    /// What is known before the first definition of a file with these names, whose functions take this by their numbers.
+    pub fn new(
+        alloc: Global,
+        names: Listed<FileName>,
+        takes: Listed<Listed<Takes>>,
+    ) -> Result<Names, NoMemory>
+        ensures { IfOk result (λ made. made ≡ record { depth = 0; locals = []; names = names; above = 0; scalars = 0; arrays = 0; sizes = []; takes = takes }) }
     {
         let table = first_table(alloc, names.as_slice())?;
         let seen = predeclared_table(alloc)?;
@@ -179,6 +195,7 @@ impl Names {
             scalars: 0,
             arrays: 0,
             sizes: Listed::new(alloc),
+            takes,
         })
     }
 
@@ -198,6 +215,7 @@ impl Names {
             scalars,
             arrays,
             sizes,
+            takes,
         } = self;
         let mut table = table;
         let mut seen = seen;
@@ -212,6 +230,7 @@ impl Names {
             scalars,
             arrays,
             sizes,
+            takes,
         })
     }
 
@@ -256,6 +275,19 @@ impl Names {
         match self.look(name) {
             Some(meant) => Some(meant.named),
             None => None,
+        }
+    }
+
+    /// What the parameters of a called function take, where its name stands for a function of the file.
+    pub fn wanted_by(&self, named: Option<Named>) -> &[Takes]
+        ensures { result.now ≡ wanted_by self.now named }
+    {
+        match named {
+            None => &[],
+            Some(named) => match named {
+                Named::Function(function, _, _) => taken(self.takes.as_slice(), function),
+                _ => &[],
+            },
         }
     }
 
@@ -349,15 +381,51 @@ impl Names {
         self.arrays
     }
 
-    fn count_array(&mut self, words: u32) -> Result<(), NoMemory>
-        ensures { OnOk result (self.new ≡ record self.old { arrays = self.old.arrays + 1; sizes = self.old.sizes ++ words ∷ [] }) }
+    fn count_array(&mut self) -> Result<(), NoMemory>
+        ensures { OnOk result (self.new ≡ record self.old { arrays = self.old.arrays + 1 }) }
     {
         if self.arrays == u32::MAX {
             return Err(NoMemory);
         }
-        self.sizes.push(words)?;
         self.arrays += 1;
         Ok(())
+    }
+
+    fn add_size(&mut self, words: u32) -> Result<(), NoMemory>
+        ensures { OnOk result (self.new ≡ record self.old { sizes = self.old.sizes ++ words ∷ [] }) }
+    {
+        self.sizes.push(words)?;
+        Ok(())
+    }
+
+    // Declares an array that a function is handed, which has no words of its own.
+    fn handed(&mut self, alloc: Global, name: &vx_ast::syntax::Name) -> Result<(), NoMemory>
+        ensures { OnOk result (self.new ≡ with_handed name.now self.old) }
+    {
+        let number = self.arrays();
+        self.declare(alloc, name.bytes.as_slice(), Named::Array(number))?;
+        self.count_array()?;
+        Ok(())
+    }
+
+    /// Declares a parameter.
+    pub fn parameter(
+        &mut self,
+        alloc: Global,
+        parameter: &vx_ast::syntax::Parameter,
+    ) -> Result<(), NoMemory>
+        ensures { OnOk result (self.new ≡ with_parameter parameter.now self.old) }
+    {
+        match parameter.takes {
+            Takes::Number => {
+                self.scalar(alloc, &parameter.name)?;
+                Ok(())
+            }
+            Takes::Array => {
+                self.handed(alloc, &parameter.name)?;
+                Ok(())
+            }
+        }
     }
 
     /// Declares an array, and gives its number.
@@ -372,7 +440,8 @@ impl Names {
     {
         let number = self.arrays();
         self.declare(alloc, name.bytes.as_slice(), Named::Array(number))?;
-        self.count_array(size.words)?;
+        self.count_array()?;
+        self.add_size(size.words)?;
         Ok(number)
     }
 

@@ -2,10 +2,12 @@
 use Rattle.std.proofs.Common.{◌≡◌, ℕ, pos, List, [], ◌∷◌, refl, Option, Some, None, codes, inl, inr, arith}
 use Rattle.vx_ast.specs.declared.tree.Gives.{Gives}
 use Rattle.vx_ast.specs.declared.tree.Gives.TheVariants.{Int, Nothing as NoValue}
+use Rattle.vx_ast.specs.declared.tree.Takes.TheVariants.{Number as TakesNumber, Array as TakesArray}
 use Rattle.vx_ast.specs.declared.tree.BinaryOperator.TheVariants.{Add}
 use Rattle.vx_ast.specs.declared.tree.GlobalVariable.TheVariants.{Scalar as GlobalOf}
 use Rattle.vx_ast.specs.declared.syntax.Place.{Place}
 use Rattle.vx_ast.specs.declared.syntax.Name.{Name}
+use Rattle.vx_ast.specs.declared.syntax.Parameter.{Parameter}
 use Rattle.vx_ast.specs.declared.names.Fault.{Fault}
 use Rattle.vx_ast.specs.Tree as tree
 use Rattle.vx_ast.specs.Tree.{One, Row}
@@ -36,17 +38,24 @@ abbrev list_of : List Code → Code
 list_of [] = Nothing
 list_of (s ∷ ss) = Seq s (list_of ss)
 
-abbrev row : List (Phrase One) → Phrase Row
-row [] = NoMore
-row (e ∷ es) = Then e (row es)
-
 abbrev number : ℕ → Phrase One
 number n = Number (pos n)
 
+-- a target or an argument, whose first token stands in this column
 abbrev target : ℕ → Phrase One → Target
 target column e = record { place = at column; phrase = e }
 
-abbrev function : Gives → List ℕ → ℕ → List Name → List Code → Definition
+abbrev row : List Target → Phrase Row
+row [] = NoMore
+row (e ∷ es) = Then e.place e.phrase (row es)
+
+abbrev scalar : Name → Parameter
+scalar x = record { name = x; takes = TakesNumber }
+
+abbrev array : Name → Parameter
+array x = record { name = x; takes = TakesArray }
+
+abbrev function : Gives → List ℕ → ℕ → List Parameter → List Code → Definition
 function gives bytes column parameters body = AFunction (record { gives = gives; name = name bytes column; parameters = parameters; body = list_of body })
 
 -- int main(void) { .. } of which the body begins at column 18, and other definitions before it
@@ -114,17 +123,17 @@ unfolding first
 void_calls = (refl, refl)
 
 -- { int a[2]; a = 1; } is S12, { int a[2]; return a; } and { int a; return a[0]; } are S7, { return printf(1); } too
-kinds : (first (only (Array (a 22) (record { words = 2; place = at 24 }) ∷ Simply (Assign (target 28 (Use (a 28))) (number 1)) ∷ [])) ≡ Some (fault 12 28)) × (first (only (Array (a 22) (record { words = 2; place = at 24 }) ∷ ReturnValue (at 28) (Use (a 35)) ∷ [])) ≡ Some (fault 7 35)) × (first (only (Scalar (a 22) ∷ ReturnValue (at 25) (Element (a 32) (number 0)) ∷ [])) ≡ Some (fault 7 32)) × (first (only (ReturnValue (at 18) (Call (name (codes "printf") 25) (row (number 1 ∷ []))) ∷ [])) ≡ Some (fault 7 25))
+kinds : (first (only (Array (a 22) (record { words = 2; place = at 24 }) ∷ Simply (Assign (target 28 (Use (a 28))) (number 1)) ∷ [])) ≡ Some (fault 12 28)) × (first (only (Array (a 22) (record { words = 2; place = at 24 }) ∷ ReturnValue (at 28) (Use (a 35)) ∷ [])) ≡ Some (fault 7 35)) × (first (only (Scalar (a 22) ∷ ReturnValue (at 25) (Element (a 32) (number 0)) ∷ [])) ≡ Some (fault 7 32)) × (first (only (ReturnValue (at 18) (Call (name (codes "printf") 25) (row (target 32 (number 1) ∷ []))) ∷ [])) ≡ Some (fault 7 25))
 unfolding first
 kinds = (refl, refl, refl, refl)
 
 -- { return b(1); } int b(void) { .. }, and { printf("%d%x"); }: the number of `%d` comes before the bad `%`
-counts : (first (with (function Int (codes "b") 40 [] [] ∷ []) (ReturnValue (at 18) (Call (b 25) (row (number 1 ∷ []))) ∷ [])) ≡ Some (fault 8 25)) × (first (only (Print (at 18) (at 25) (codes "%d%x") (row []) ∷ [])) ≡ Some (fault 8 18)) × (first (only (Print (at 18) (at 25) (codes "%%%x") (row []) ∷ [])) ≡ Some (fault 9 25))
+counts : (first (with (function Int (codes "b") 40 [] [] ∷ []) (ReturnValue (at 18) (Call (b 25) (row (target 27 (number 1) ∷ []))) ∷ [])) ≡ Some (fault 8 25)) × (first (only (Print (at 18) (at 25) (codes "%d%x") (row []) ∷ [])) ≡ Some (fault 8 18)) × (first (only (Print (at 18) (at 25) (codes "%%%x") (row []) ∷ [])) ≡ Some (fault 9 25))
 unfolding first
 counts = (refl, refl, refl)
 
 -- void main(void) { }, a file without functions, int main(int a) { .. }
-no_main : (first (record { definitions = function NoValue (codes "main") 6 [] [] ∷ []; end = at 99 }) ≡ Some (fault 10 99)) × (first (record { definitions = []; end = at 1 }) ≡ Some (fault 10 1)) × (first (record { definitions = function Int (codes "main") 5 (a 14 ∷ []) [] ∷ []; end = at 99 }) ≡ Some (fault 10 99))
+no_main : (first (record { definitions = function NoValue (codes "main") 6 [] [] ∷ []; end = at 99 }) ≡ Some (fault 10 99)) × (first (record { definitions = []; end = at 1 }) ≡ Some (fault 10 1)) × (first (record { definitions = function Int (codes "main") 5 (scalar (a 14) ∷ []) [] ∷ []; end = at 99 }) ≡ Some (fault 10 99))
 unfolding first
 no_main = (refl, refl, refl)
 
@@ -151,6 +160,7 @@ hides : resolved (record { definitions = GlobalScalar (a 5) (pos 7) ∷ main (Sc
         name = codes "main";
         gives = Int;
         parameters = 0;
+        takes = [];
         scalars = 2;
         arrays = [];
         body = tree.Seq (tree.Clear 0) (tree.Seq (tree.Block (tree.Seq (tree.Declare 1 (tree.Local 0)) (tree.Seq (tree.Simply (tree.Assign (tree.InLocal 0) (tree.Local 1))) tree.Nothing))) (tree.Seq (tree.ReturnValue (tree.Global 0)) tree.Nothing));
@@ -159,6 +169,45 @@ hides : resolved (record { definitions = GlobalScalar (a 5) (pos 7) ∷ main (Sc
     }
 unfolding predeclared look declared
 hides = refl
+
+-- void b(int a[]) { } behind { int a[2]; .. } with b(a), b(c), b((a)), b(a[0]), b(a, a), and { int a; b(a); }
+abbrev takes_array : List Definition
+takes_array = function NoValue (codes "b") 60 (array (a 67) ∷ []) [] ∷ []
+
+abbrev handing : List Target → Program
+handing arguments = with takes_array (Array (a 22) (record { words = 2; place = at 24 }) ∷ Simply (Evaluate (Call (b 28) (row arguments))) ∷ [])
+
+handed_arrays : (first (handing (target 30 (Use (a 30)) ∷ [])) ≡ None) × (first (handing (target 30 (Use (name (codes "c") 30)) ∷ [])) ≡ Some (fault 5 30)) × (first (handing (target 30 (Use (a 31)) ∷ [])) ≡ Some (fault 7 30))
+    × (first (handing (target 30 (Element (a 30) (number 0)) ∷ [])) ≡ Some (fault 7 30)) × (first (handing (target 30 (Use (a 30)) ∷ target 33 (Use (a 33)) ∷ [])) ≡ Some (fault 8 28))
+    × (first (with takes_array (Scalar (a 22) ∷ Simply (Evaluate (Call (b 25) (row (target 27 (Use (a 27)) ∷ [])))) ∷ [])) ≡ Some (fault 7 27))
+unfolding first
+handed_arrays = (refl, refl, refl, refl, refl, refl)
+
+-- an array where a number is taken; int main(int a[]) { }; void b(int a[], int a) { }
+handed_numbers : (first (with (function NoValue (codes "b") 60 (scalar (a 67) ∷ []) [] ∷ []) (Array (a 22) (record { words = 2; place = at 24 }) ∷ Simply (Evaluate (Call (b 28) (row (target 30 (Use (a 30)) ∷ [])))) ∷ [])) ≡ Some (fault 7 30))
+    × (first (record { definitions = function Int (codes "main") 5 (array (a 14) ∷ []) [] ∷ []; end = at 99 }) ≡ Some (fault 10 99))
+    × (first (with (function NoValue (codes "b") 60 (array (a 66) ∷ scalar (a 75) ∷ []) [] ∷ []) []) ≡ Some (fault 6 75))
+unfolding first
+handed_numbers = (refl, refl, refl)
+
+-- int a; void f(int a[], int b, int c[]) { int d[2]; f(c, b, d); }: the array parameters stand behind the global, and the function's
+-- own array behind them
+array_numbers : resolved (record { definitions = GlobalScalar (a 5) (pos 7) ∷ function NoValue (codes "f") 12 (array (a 18) ∷ scalar (b 27) ∷ array (name (codes "c") 34) ∷ []) (Array (name (codes "d") 45) (record { words = 2; place = at 47 }) ∷ Simply (Evaluate (Call (name (codes "f") 51) (row (target 53 (Use (name (codes "c") 53)) ∷ target 56 (Use (b 56)) ∷ target 59 (Use (name (codes "d") 59)) ∷ [])))) ∷ []) ∷ []; end = at 99 })
+    ≡ record {
+      globals = GlobalOf (pos 7) ∷ [];
+      functions = (record {
+        name = codes "f";
+        gives = NoValue;
+        parameters = 1;
+        takes = TakesArray ∷ TakesNumber ∷ TakesArray ∷ [];
+        scalars = 1;
+        arrays = 2 ∷ [];
+        body = tree.Seq (tree.ClearArray 3) (tree.Seq (tree.Simply (tree.Evaluate (tree.Apply 0 (tree.Hand 2 (tree.Then (tree.Local 0) (tree.Hand 3 tree.NoMore)))))) tree.Nothing);
+      }) ∷ [];
+      main = 0;
+    }
+unfolding predeclared look declared
+array_numbers = refl
 
 -- `(a) = 1;` at column 18: S12 at the parenthesis stands before S5 at the name; at one place the lower code stands first
 by_column : Before (fault 12 18) (fault 5 19)

@@ -1,5 +1,5 @@
 -- Consecutive numbers, as declarations take them.
-use Rattle.std.proofs.Common.{◌≡◌, ℕ, zero, suc, ◌+◌, ◌-◌, ◌<◌, ◌≤◌, Bool, true, false, ◌&&◌, ◌||◌, not, nat_eq, nat_lt, List, [], ◌∷◌, ◌++◌, length, refl, ap, sym, ◌∙◌, arith}
+use Rattle.std.proofs.Common.{◌≡◌, ℕ, zero, suc, ◌+◌, ◌-◌, ◌<◌, ◌≤◌, Bool, true, false, ◌&&◌, ◌||◌, nat_eq, nat_lt, List, [], ◌∷◌, ◌++◌, map, refl, ap, sym, ◌∙◌, arith}
 use Rattle.std.specs.List.{list_all}
 use Rattle.std.proofs.lemmas.Bool.{lt-ltb, eq-eqb, eqb-true, ltb-true}
 use Rattle.vx_ast.specs.Accepted.{is_in, at_most, below, are_all_from}
@@ -46,6 +46,18 @@ in_below n (suc m) h =
       | false ↦ λ e. or_right (nat_eq n m) (is_in n (below m)) (in_below n m (let k : n ≡ m → ⊥ = λ q. (let t = eq-eqb n m q in cc) in (let w : n < suc m = h in omega (arith, w, k))))
     ] in
     by (nat_eq n m) refl
+
+-- the same behind a number that is added to each
+pub in_added : (base a m : ℕ) → base ≤ a → a < base + m → is_in a (map (λ k. base + k) (below m)) ≡ true
+in_added base a zero h k = absurd (omega (arith, h, k))
+in_added base a (suc m) h k =
+    let by : (b : Bool) → nat_eq a (base + m) ≡ b → is_in a ((base + m) ∷ map (λ k. base + k) (below m)) ≡ true
+    = λ b. elim b as (λ b. nat_eq a (base + m) ≡ b → is_in a ((base + m) ∷ map (λ k. base + k) (below m)) ≡ true) [
+      | true ↦ λ e. or_left (nat_eq a (base + m)) (is_in a (map (λ k. base + k) (below m))) e
+      | false ↦ λ e. or_right (nat_eq a (base + m)) (is_in a (map (λ k. base + k) (below m)))
+          (in_added base a m h (let apart : a ≡ base + m → ⊥ = (λ q. (let t = eq-eqb a (base + m) q in cc)) in (let w : a < base + suc m = k in omega (arith, w, apart))))
+    ] in
+    by (nat_eq a (base + m)) refl
 
 -- so many numbers, from one on
 abbrev pub from : ℕ → ℕ → List ℕ

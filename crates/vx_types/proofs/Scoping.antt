@@ -2,10 +2,13 @@
 use Rattle.std.proofs.Common.{◌≡◌, ℕ, suc, ◌+◌, ◌-◌, true, false, if◌then◌else◌, length, drop, List, [], ◌∷◌, ◌++◌, refl, ap, sym, ◌∙◌, subst, arith, append_assoc, length-append}
 use Rattle.vx_ast.specs.declared.syntax.Name.{Name}
 use Rattle.vx_ast.specs.declared.syntax.Size.{Size}
+use Rattle.vx_ast.specs.declared.syntax.Parameter.{Parameter}
+use Rattle.vx_ast.specs.declared.tree.Takes.{Takes}
+use Rattle.vx_ast.specs.declared.tree.Takes.TheVariants.{Number as TakesNumber, Array as TakesArray}
 use Rattle.vx_ast.specs.declared.names.Named.{Named}
 use Rattle.vx_ast.specs.declared.names.Named.TheVariants.{Scalar as AScalar, Array as AnArray}
 use Rattle.vx_ast.specs.Syntax.{Code, Nothing, Seq, Empty, Block, Scalar, ScalarWith, Array, Simply, Head, Print, If, IfElse, While, DoWhile, For, Break, Continue, Return, ReturnValue}
-use Rattle.vx_ast.specs.Scopes.{Environment, Known, declared, with_scalar, with_array, with_parameters, inside, outside, behind, is_at, look}
+use Rattle.vx_ast.specs.Scopes.{Environment, Known, declared, with_scalar, with_array, with_handed, with_taken, with_parameter, with_parameters, inside, outside, behind, is_at, look}
 
 pub record Keeps (old new : Environment) : Type 0 where
   pub depth : new.depth ≡ old.depth
@@ -13,9 +16,10 @@ pub record Keeps (old new : Environment) : Type 0 where
   pub locals : new.locals ≡ more ++ old.locals
   pub names : new.names ≡ old.names
   pub above : new.above ≡ old.above
+  pub takes : new.takes ≡ old.takes
 
 pub keeps_itself : (env : Environment) → Keeps env env
-keeps_itself env = record { depth = refl; more = []; locals = refl; names = refl; above = refl }
+keeps_itself env = record { depth = refl; more = []; locals = refl; names = refl; above = refl; takes = refl }
 
 pub keeps_on : (a b c : Environment) → Keeps a b → Keeps b c → Keeps a c
 keeps_on a b c p q = record {
@@ -24,6 +28,7 @@ keeps_on a b c p q = record {
   locals = q.locals ∙ ap (λ z. q.more ++ z) p.locals ∙ sym (append_assoc q.more p.more a.locals);
   names = q.names ∙ p.names;
   above = q.above ∙ p.above;
+  takes = q.takes ∙ p.takes;
 }
 
 pub declared_keeps : (x : List ℕ) (n : Named) (env : Environment) → Keeps env (declared x n env)
@@ -31,21 +36,21 @@ unfolding declared
 declared_keeps x n env =
     elim (is_at env.depth (look x env)) as (λ b. Keeps env (if b then env else record env { locals = (record { name = x; meant = record { depth = env.depth; named = n } }) ∷ env.locals })) [
       | true ↦ keeps_itself env
-      | false ↦ record { depth = refl; more = (record { name = x; meant = record { depth = env.depth; named = n } }) ∷ []; locals = refl; names = refl; above = refl }
+      | false ↦ record { depth = refl; more = (record { name = x; meant = record { depth = env.depth; named = n } }) ∷ []; locals = refl; names = refl; above = refl; takes = refl }
     ]
 
 scalar_keeps : (x : Name) (env : Environment) → Keeps env (with_scalar x env)
-scalar_keeps x env = let k = declared_keeps x.bytes (AScalar env.scalars) env in record { depth = k.depth; more = k.more; locals = k.locals; names = k.names; above = k.above }
+scalar_keeps x env = let k = declared_keeps x.bytes (AScalar env.scalars) env in record { depth = k.depth; more = k.more; locals = k.locals; names = k.names; above = k.above; takes = k.takes }
 
 array_keeps : (a : Name) (size : Size) (env : Environment) → Keeps env (with_array a size env)
-array_keeps a size env = let k = declared_keeps a.bytes (AnArray env.arrays) env in record { depth = k.depth; more = k.more; locals = k.locals; names = k.names; above = k.above }
+array_keeps a size env = let k = declared_keeps a.bytes (AnArray env.arrays) env in record { depth = k.depth; more = k.more; locals = k.locals; names = k.names; above = k.above; takes = k.takes }
 
 -- behind a scope of its own
 outside_keeps : (env inner : Environment) → Keeps (inside env) inner → Keeps env (outside env inner)
-outside_keeps env inner k = record { depth = refl; more = []; locals = refl; names = k.names; above = k.above }
+outside_keeps env inner k = record { depth = refl; more = []; locals = refl; names = k.names; above = k.above; takes = k.takes }
 
 inside_keeps : (env inner : Environment) → Keeps env inner → Keeps (inside env) (inside inner)
-inside_keeps env inner k = record { depth = ap (λ n. n + 1) k.depth; more = k.more; locals = k.locals; names = k.names; above = k.above }
+inside_keeps env inner k = record { depth = ap (λ n. n + 1) k.depth; more = k.more; locals = k.locals; names = k.names; above = k.above; takes = k.takes }
 
 -- a scope of its own within another one
 within_keeps : (env middle inner : Environment) → Keeps (inside env) middle → Keeps (inside middle) inner → Keeps (inside env) (outside middle inner)
@@ -66,21 +71,28 @@ behind_keeps (If e a) env = outside_keeps env (behind a (inside env)) (behind_ke
 behind_keeps (IfElse e a b) env =
     let one = outside_keeps env (behind a (inside env)) (behind_keeps a (inside env)) in
     let two = behind_keeps b (inside (outside env (behind a (inside env)))) in
-    record { depth = refl; more = []; locals = refl; names = two.names ∙ one.names; above = two.above ∙ one.above }
+    record { depth = refl; more = []; locals = refl; names = two.names ∙ one.names; above = two.above ∙ one.above; takes = two.takes ∙ one.takes }
 behind_keeps (While e a) env = outside_keeps env (behind a (inside env)) (behind_keeps a (inside env))
 behind_keeps (DoWhile a e) env = outside_keeps env (behind a (inside env)) (behind_keeps a (inside env))
 behind_keeps (For first test step a) env =
     let one = behind_keeps first (inside env) in
     let two = behind_keeps a (inside (behind first (inside env))) in
-    record { depth = refl; more = []; locals = refl; names = two.names ∙ one.names; above = two.above ∙ one.above }
+    record { depth = refl; more = []; locals = refl; names = two.names ∙ one.names; above = two.above ∙ one.above; takes = two.takes ∙ one.takes }
 behind_keeps (Break at) env = keeps_itself env
 behind_keeps (Continue at) env = keeps_itself env
 behind_keeps (Return at) env = keeps_itself env
 behind_keeps (ReturnValue at e) env = keeps_itself env
 
-pub parameters_keep : (xs : List Name) (env : Environment) → Keeps env (with_parameters xs env)
+handed_keeps : (a : Name) (env : Environment) → Keeps env (with_handed a env)
+handed_keeps a env = let k = declared_keeps a.bytes (AnArray env.arrays) env in record { depth = k.depth; more = k.more; locals = k.locals; names = k.names; above = k.above; takes = k.takes }
+
+taken_keeps : (t : Takes) (x : Name) (env : Environment) → Keeps env (with_taken t x env)
+taken_keeps TakesNumber x env = scalar_keeps x env
+taken_keeps TakesArray x env = handed_keeps x env
+
+pub parameters_keep : (qs : List Parameter) (env : Environment) → Keeps env (with_parameters qs env)
 parameters_keep [] env = keeps_itself env
-parameters_keep (x ∷ xs) env = keeps_on env (with_scalar x env) (with_parameters xs (with_scalar x env)) (scalar_keeps x env) (parameters_keep xs (with_scalar x env))
+parameters_keep (q ∷ qs) env = keeps_on env (with_parameter q env) (with_parameters qs (with_parameter q env)) (taken_keeps q.takes q.name env) (parameters_keep qs (with_parameter q env))
 
 -- leaving a scope
 

@@ -5,6 +5,7 @@ use Rattle.std.specs.List.{list_all}
 use Rattle.std.proofs.lemmas.List.Folds.{list_all-append}
 use Rattle.std.proofs.lemmas.Bool.{eq-eqb, eqb-true}
 use Rattle.vx_ast.specs.declared.tree.Gives.{Gives}
+use Rattle.vx_ast.specs.declared.tree.Takes.{Takes}
 use Rattle.vx_ast.specs.declared.tree.Gives.TheVariants.{Int as GivesInt, Nothing as GivesNothing}
 use Rattle.vx_ast.specs.declared.syntax.Name.{Name}
 use Rattle.vx_ast.specs.declared.syntax.Size.{Size}
@@ -14,16 +15,16 @@ use Rattle.vx_ast.specs.declared.names.FileName.{FileName}
 use Rattle.vx_ast.specs.Tree as tree
 use Rattle.vx_ast.specs.Tree.{One}
 use Rattle.vx_ast.specs.Accepted as accepted
-use Rattle.vx_ast.specs.Accepted.{gives_int, is_array, is_in, is_format, numbers_of, names_array, suits, suits_action, suits_test, suits_code, scope_after, scalars_of, arrays_of}
+use Rattle.vx_ast.specs.Accepted.{gives_int, is_array, is_in, is_format, numbers_of, has_numbers, names_array, suits, suits_action, suits_test, suits_code, scope_after, scalars_of, arrays_of}
 use Rattle.vx_ast.specs.Syntax.{Code, Nothing, Seq, Empty, Block, Scalar, ScalarWith, Array, Simply, Head, Print, If, IfElse, While, DoWhile, For, Break, Continue, Return, ReturnValue}
 use Rattle.vx_ast.specs.Scopes.{Environment, Known, is_at, look, declared, with_scalar, with_array, inside, outside, behind, predeclared, known_of, file_in}
-use Rattle.vx_ast.specs.Faults.{fault_if, declares, sizes_faults, prints, row_length, phrase_faults, test_faults, code_faults}
-use Rattle.vx_ast.specs.Resolved.{tree_in, test_in, code_in}
+use Rattle.vx_ast.specs.Faults.{fault_if, declares, sizes_faults, prints, row_length, phrase_faults, row_faults, test_faults, code_faults}
+use Rattle.vx_ast.specs.Resolved.{tree_in, row_in, test_in, code_in}
 use Rattle.vx_limits.specs.Words.{tree_words, test_words, code_words}
 use Rattle.vx_names.proofs.Declaring.{declared_counts}
 use Rattle.vx_types.proofs.Scoping.{behind_keeps}
 use Rattle.vx_types.proofs.Numbered.{in_front, in_more, lt_true, lt_false, Numbers, numbers_none, numbers_one, numbers_on, numbers_rise}
-use Rattle.vx_types.proofs.Suits.{and_both, and_left, and_right, none_left, none_right, no_fault, not_false, Fits, AllFit, KnownFit, phrase_suits, action_suits, test_suits, lengths}
+use Rattle.vx_types.proofs.Suits.{and_both, and_left, and_right, none_left, none_right, no_fault, not_false, Fits, AllFit, KnownFit, TakesFit, phrase_suits, row_suits, action_suits, test_suits, lengths, all_numbers}
 
 -- the numbers of scalars and arrays
 
@@ -188,11 +189,11 @@ module _ (P : tree.Program) where
   all_array x sc [] f = tt
   all_array x sc (k ∷ ks) f = (fits_array x sc k.meant.named f.0, all_array x sc ks f.1)
 
-  pub declared_fits : (x : List ℕ) (n : Named) (sc : accepted.Scope) (env : Environment) → Fits P sc n → KnownFit P sc env → KnownFit P sc (declared x n env)
+  pub declared_fits : (x : List ℕ) (n : Named) (sc : accepted.Scope) (env : Environment) → Fits P sc n → AllFit P sc (env.locals ++ file_in env) → TakesFit P env.takes → KnownFit P sc (declared x n env)
   unfolding declared
-  declared_fits x n sc env f k =
+  declared_fits x n sc env f k t =
       elim (is_at env.depth (look x env)) as (λ b. KnownFit P sc (if b then env else record env { locals = (record { name = x; meant = record { depth = env.depth; named = n } }) ∷ env.locals }))
-      [ true ↦ k | false ↦ (f, k) ]
+      [ true ↦ record { names = k; takes = t } | false ↦ record { names = (f, k); takes = t } ]
 
   pub record Ties (sc : accepted.Scope) (env : Environment) : Type 0 where
     pub fits : KnownFit P sc env
@@ -200,7 +201,7 @@ module _ (P : tree.Program) where
 
   ties_scalar : (x : Name) (sc : accepted.Scope) (env : Environment) → Ties sc env → Ties (more_scalar env.scalars sc) (with_scalar x env)
   ties_scalar x sc env t = record {
-    fits = declared_fits x.bytes (AScalar env.scalars) (more_scalar env.scalars sc) env (in_front env.scalars sc.scalars) (all_scalar env.scalars sc (env.locals ++ file_in env) t.fits);
+    fits = declared_fits x.bytes (AScalar env.scalars) (more_scalar env.scalars sc) env (in_front env.scalars sc.scalars) (all_scalar env.scalars sc (env.locals ++ file_in env) t.fits.names) t.fits.takes;
     own = (let k = t.own in let l = (declared_counts x.bytes (AScalar env.scalars) env).1 in omega (arith, k, l));
   }
 
@@ -209,23 +210,26 @@ module _ (P : tree.Program) where
 
   ties_array : (x : Name) (size : Size) (sc : accepted.Scope) (env : Environment) → Ties sc env → Ties (more_array env.arrays sc) (with_array x size env)
   ties_array x size sc env t = record {
-    fits = declared_fits x.bytes (AnArray env.arrays) (more_array env.arrays sc) env (own_array env.arrays sc t.own) (all_array env.arrays sc (env.locals ++ file_in env) t.fits);
+    fits = declared_fits x.bytes (AnArray env.arrays) (more_array env.arrays sc) env (own_array env.arrays sc t.own) (all_array env.arrays sc (env.locals ++ file_in env) t.fits.names) t.fits.takes;
     own = (let k = t.own in omega (arith, k));
   }
 
   pub ties_inside : (sc : accepted.Scope) (env : Environment) → Ties sc env → Ties sc (inside env)
   ties_inside sc env t = record { fits = t.fits; own = t.own }
 
-  ties_outside : (sc : accepted.Scope) (env inner : Environment) → Ties sc env → inner.names ≡ env.names → inner.above ≡ env.above → env.arrays ≤ inner.arrays → Ties sc (outside env inner)
-  ties_outside sc env inner t n a r = record {
-    fits = subst (λ (z : List FileName). AllFit P sc (env.locals ++ (predeclared ++ known_of inner.above z))) (sym n) (subst (λ (z : ℕ). AllFit P sc (env.locals ++ (predeclared ++ known_of z env.names))) (sym a) t.fits);
+  ties_outside : (sc : accepted.Scope) (env inner : Environment) → Ties sc env → inner.names ≡ env.names → inner.above ≡ env.above → inner.takes ≡ env.takes → env.arrays ≤ inner.arrays → Ties sc (outside env inner)
+  ties_outside sc env inner t n a k r = record {
+    fits = record {
+      names = subst (λ (z : List FileName). AllFit P sc (env.locals ++ (predeclared ++ known_of inner.above z))) (sym n) (subst (λ (z : ℕ). AllFit P sc (env.locals ++ (predeclared ++ known_of z env.names))) (sym a) t.fits.names);
+      takes = subst (λ (z : List (List Takes)). TakesFit P z) (sym k) t.fits.takes;
+    };
     own = (let k = t.own in omega (arith, k, r));
   }
 
   ties_block : (s : Code) (sc : accepted.Scope) (env : Environment) → Ties sc env → Ties sc (outside env (behind s (inside env)))
   ties_block s sc env t =
       let k = behind_keeps s (inside env) in
-      ties_outside sc env (behind s (inside env)) t k.names k.above (numbers_rise env.arrays (behind s (inside env)).arrays (arrays_of (code_in (inside env) s)) (arrays_numbered s (inside env)))
+      ties_outside sc env (behind s (inside env)) t k.names k.above k.takes (numbers_rise env.arrays (behind s (inside env)).arrays (arrays_of (code_in (inside env) s)) (arrays_numbered s (inside env)))
 
   pub ties_behind : (s : Code) (sc : accepted.Scope) (env : Environment) → Ties sc env → Ties (scope_after (code_in env s) sc) (behind s env)
   ties_behind Nothing sc env t = t
@@ -249,7 +253,7 @@ module _ (P : tree.Program) where
       let l = behind_keeps a (inside (behind first (inside env))) in
       let m = numbers_rise env.arrays (behind first (inside env)).arrays (arrays_of (code_in (inside env) first)) (arrays_numbered first (inside env)) in
       let n = numbers_rise (behind first (inside env)).arrays (behind a (inside (behind first (inside env)))).arrays (arrays_of (code_in (inside (behind first (inside env))) a)) (arrays_numbered a (inside (behind first (inside env)))) in
-      ties_outside sc env (behind a (inside (behind first (inside env)))) t (l.names ∙ k.names) (l.above ∙ k.above) (omega (arith, m, n))
+      ties_outside sc env (behind a (inside (behind first (inside env)))) t (l.names ∙ k.names) (l.above ∙ k.above) (l.takes ∙ k.takes) (omega (arith, m, n))
   ties_behind (Break at) sc env t = t
   ties_behind (Continue at) sc env t = t
   ties_behind (Return at) sc env t = t
@@ -273,12 +277,14 @@ module _ (P : tree.Program) where
   code_suits gives loops (Print at at_format format row) sc env t w h =
       let n = not (nat_eq (row_length row) (numbers_of format)) in
       let g = prints at at_format format (row_length row) in
-      let p = none_left g (phrase_faults env row) h in
+      let made = row_in env [] row in
+      let p = none_left g (row_faults env [] row) h in
       let count = not_false (nat_eq (row_length row) (numbers_of format)) (no_fault n 8 at (none_left (fault_if n 8 at) (fault_if (not (is_format format)) 9 at_format) p)) in
       let spelled = not_false (is_format format) (no_fault (not (is_format format)) 9 at_format (none_right (fault_if n 8 at) (fault_if (not (is_format format)) 9 at_format) p)) in
-      and_both (is_format format && nat_eq (numbers_of format) (accepted.row_length (tree_in env row))) (suits P sc (tree_in env row))
-      (and_both (is_format format) (nat_eq (numbers_of format) (accepted.row_length (tree_in env row))) spelled (counted (row_length row) (numbers_of format) (accepted.row_length (tree_in env row)) (lengths P sc env row) count))
-      (phrase_suits P sc env row t.fits w (none_right g (phrase_faults env row) h))
+      and_both (is_format format && (nat_eq (numbers_of format) (accepted.row_length made) && has_numbers made)) (suits P sc made)
+      (and_both (is_format format) (nat_eq (numbers_of format) (accepted.row_length made) && has_numbers made) spelled
+      (and_both (nat_eq (numbers_of format) (accepted.row_length made)) (has_numbers made) (counted (row_length row) (numbers_of format) (accepted.row_length made) (lengths env [] row) count) (all_numbers env row)))
+      (row_suits P sc env [] row t.fits w (none_right g (row_faults env [] row) h))
     where
       counted : (m n k : ℕ) → m ≡ k → nat_eq m n ≡ true → nat_eq n k ≡ true
       counted m n k e q = (let r : m ≡ n = eqb-true m n q in eq-eqb n k (sym r ∙ e))

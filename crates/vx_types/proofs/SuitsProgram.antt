@@ -1,23 +1,26 @@
 -- A program without faults is suited, and with its limits kept it is accepted.
-use Rattle.std.proofs.Common.{◌≡◌, ℕ, zero, suc, ◌+◌, ◌-◌, ◌<◌, ◌≤◌, Bool, true, false, ◌&&◌, ◌||◌, if◌then◌else◌, not, nat_eq, nat_lt, List, [], ◌∷◌, ◌++◌, length, take, refl, ap, sym, ◌∙◌, subst, Option, Some, None, arith, append_assoc, length-append, codes}
-use Rattle.std.specs.Prelude.{slice_get}
+use Rattle.std.proofs.Common.{◌≡◌, ℕ, zero, suc, ◌+◌, ◌-◌, ◌<◌, ◌≤◌, Bool, true, false, ◌&&◌, ◌||◌, if◌then◌else◌, not, nat_eq, nat_lt, List, [], ◌∷◌, ◌++◌, length, take, map, refl, ap, sym, ◌∙◌, subst, Option, Some, None, arith, append_assoc, length-append, codes}
+use Rattle.std.specs.Prelude.{slice_get, slice_index_or}
 use Rattle.std.specs.List.{list_all, list_any}
 use Rattle.vx_ast.specs.declared.tree.GlobalVariable.{GlobalVariable}
 use Rattle.vx_ast.specs.declared.tree.GlobalVariable.TheVariants.{Scalar as ScalarGlobal, Array as ArrayGlobal}
 use Rattle.vx_ast.specs.declared.syntax.Name.{Name}
-use Rattle.vx_ast.specs.declared.names.Named.TheVariants.{Scalar as AScalar}
+use Rattle.vx_ast.specs.declared.tree.Takes.{Takes}
+use Rattle.vx_ast.specs.declared.tree.Takes.TheVariants.{Number as TakesNumber, Array as TakesArray}
+use Rattle.vx_ast.specs.declared.syntax.Parameter.{Parameter}
+use Rattle.vx_ast.specs.declared.names.Named.TheVariants.{Scalar as AScalar, Array as AnArray}
 use Rattle.vx_ast.specs.declared.names.FileName.{FileName}
 use Rattle.vx_ast.specs.declared.names.Fault.{Fault}
 use Rattle.vx_ast.specs.Tree as tree
 use Rattle.vx_ast.specs.Accepted as accepted
-use Rattle.vx_ast.specs.Accepted.{gives_int, is_word, is_scalar, is_array, is_in, at_most, below, names_array, suits_code, suits_function, suits_global, in_force_at_start, scalars_of, arrays_of, are_all_from, is_suited, is_accepted, is_none, limit_of}
+use Rattle.vx_ast.specs.Accepted.{gives_int, numbers_among, arrays_among, is_word, is_scalar, is_array, is_in, at_most, below, names_array, suits_code, suits_function, suits_global, in_force_at_start, scalars_of, arrays_of, are_all_from, is_suited, is_accepted, is_none, limit_of}
 use Rattle.vx_ast.specs.Syntax.{Function, Definition, GlobalScalar, GlobalArray, AFunction, Program}
-use Rattle.vx_ast.specs.Scopes.{Environment, Known, same_name, predeclared, known_of, names_from, names_of, globals_of, at_function, with_scalar, with_parameters, behind, in_file}
+use Rattle.vx_ast.specs.Scopes.{Environment, Known, same_name, predeclared, known_of, names_from, names_of, globals_of, at_function, takes_of, takes_from, with_taken, with_parameter, with_parameters, behind, in_file}
 use Rattle.vx_ast.specs.Faults.{fault_if, sizes_faults, is_repeated, parameter_faults, code_faults, function_faults, definition_faults, definitions_faults, is_main, faults_of, least, first_fault, stands_before}
 use Rattle.vx_ast.specs.Resolved.{function_in, functions_from, main_from, resolved, code_in}
 use Rattle.vx_limits.specs.Words.{function_words, global_words, program_words}
 use Rattle.vx_names.proofs.Declaring.{declared_counts}
-use Rattle.vx_types.proofs.Numbered.{in_below, lt_true, numbers_all, numbers_rise}
+use Rattle.vx_types.proofs.Numbered.{eq_itself, in_below, in_added, lt_true, lt_false, numbers_all, numbers_rise}
 use Rattle.vx_types.proofs.Suits.{and_both, and_left, and_right, none_left, none_right, no_fault, not_false, Fits, AllFit}
 use Rattle.vx_types.proofs.SuitsCode.{Ties, code_suits, declared_fits, scalars_numbered, arrays_numbered, sized, over_zero}
 
@@ -56,6 +59,10 @@ predeclared_fit P sc ks f = (tt, (tt, (tt, f)))
 array_there : (P : tree.Program) (sc : accepted.Scope) (a n : ℕ) → a < length P.globals → slice_get P.globals a ≡ Some (ArrayGlobal n) → names_array P sc a ≡ true
 array_there P sc a n h e = ap (λ (b : Bool). if b then is_array (slice_get P.globals a) else is_in a sc.arrays) (lt_true a (length P.globals) h) ∙ ap (λ (z : Option GlobalVariable). is_array z) e
 
+takes_length : (qs : List Parameter) → length (takes_of qs) ≡ length qs
+takes_length [] = refl
+takes_length (q ∷ qs) = ap suc (takes_length qs)
+
 names_fit : (p : Program) (P : tree.Program) (sc : accepted.Scope) (gdone : List GlobalVariable) (fdone : List tree.Function) (above a f : ℕ) (ds : List Definition)
     → P.globals ≡ gdone ++ globals_of ds → P.functions ≡ fdone ++ functions_from p above ds → a ≡ length gdone → f ≡ length fdone → NamesFit P sc (names_from a f ds)
 names_fit p P sc gdone fdone above a f [] g h m n = tt
@@ -69,63 +76,112 @@ names_fit p P sc gdone fdone above a f (GlobalArray x size ∷ ds) g h m n =
       names_fit p P sc (gdone ++ ArrayGlobal size.words ∷ []) fdone (above + 1) (a + 1) f ds (shifted gdone (globals_of ds) P.globals (ArrayGlobal size.words) g) h (one_more gdone (ArrayGlobal size.words) a m) n,
     )
 names_fit p P sc gdone fdone above a f (AFunction d ∷ ds) g h m n = (
-  (function_in (at_function p above) d, slice_at fdone (functions_from p (above + 1) ds) P.functions (function_in (at_function p above) d) f h n, refl, refl),
+  (function_in (at_function p above) d, slice_at fdone (functions_from p (above + 1) ds) P.functions (function_in (at_function p above) d) f h n, refl, takes_length d.parameters),
   names_fit p P sc gdone (fdone ++ function_in (at_function p above) d ∷ []) (above + 1) a (f + 1) ds g (shifted fdone (functions_from p (above + 1) ds) P.functions (function_in (at_function p above) d) h) m (one_more fdone (function_in (at_function p above) d) f n),
 )
 
 -- functions
 
-parameter_ties : (P : tree.Program) (sc : accepted.Scope) (m : ℕ) (xs : List Name) (env : Environment) → sc.scalars ≡ below m → env.scalars + length xs ≤ m → Ties P sc env → Ties P sc (with_parameters xs env)
-parameter_ties P sc m [] env s h t = t
-parameter_ties P sc m (x ∷ xs) env s h t =
-    let k : env.scalars + suc (length xs) ≤ m = h in
-    let c = declared_counts x.bytes (AScalar env.scalars) env in
-    parameter_ties P sc m xs (with_scalar x env) s (omega (arith, k)) (record {
-      fits = declared_fits P x.bytes (AScalar env.scalars) sc env (ap (λ (z : List ℕ). is_in env.scalars z) s ∙ in_below env.scalars m (omega (arith, k))) t.fits;
-      own = (let o = t.own in let q = c.1 in omega (arith, o, q));
-    })
+-- what each function takes is what is known of it
+takes_fit : (p : Program) (above : ℕ) (ds : List Definition) (f : ℕ) (t : tree.Function) → slice_get (functions_from p above ds) f ≡ Some t → slice_index_or (takes_from ds) f [] ≡ t.takes
+takes_fit p above [] f t e = cc
+takes_fit p above (GlobalScalar x z ∷ ds) f t e = takes_fit p (above + 1) ds f t e
+takes_fit p above (GlobalArray x size ∷ ds) f t e = takes_fit p (above + 1) ds f t e
+takes_fit p above (AFunction d ∷ ds) zero t e = some_takes (function_in (at_function p above) d) t e
+  where
+    some_takes : (u t : tree.Function) → Some u ≡ Some t → u.takes ≡ t.takes
+    some_takes u t e = (let q : u ≡ t = cc in ap (λ (z : tree.Function). z.takes) q)
+takes_fit p above (AFunction d ∷ ds) (suc f) t e = takes_fit p (above + 1) ds f t e
 
-parameter_counts : (xs : List Name) (env : Environment) → ((with_parameters xs env).scalars ≡ env.scalars + length xs) × ((with_parameters xs env).arrays ≡ env.arrays) × ((with_parameters xs env).sizes ≡ env.sizes)
-parameter_counts [] env = (omega arith, refl, refl)
-parameter_counts (x ∷ xs) env =
+-- parameters: so many scalars below the first number, and so many arrays behind the globals
+
+array_in_force : (P : tree.Program) (sc : accepted.Scope) (a m : ℕ) → sc.arrays ≡ map (λ k. length P.globals + k) (below m) → length P.globals ≤ a → a < length P.globals + m → names_array P sc a ≡ true
+array_in_force P sc a m e h k =
+    ap (λ (b : Bool). if b then is_array (slice_get P.globals a) else is_in a sc.arrays) (lt_false a (length P.globals) h)
+    ∙ ap (λ (z : List ℕ). is_in a z) e ∙ in_added (length P.globals) a m h k
+
+taken_counts : (w : Takes) (x : Name) (env : Environment) (ws : List Takes)
+    → ((with_taken w x env).scalars + numbers_among ws ≡ env.scalars + numbers_among (w ∷ ws)) × ((with_taken w x env).arrays + arrays_among ws ≡ env.arrays + arrays_among (w ∷ ws)) × ((with_taken w x env).sizes ≡ env.sizes)
+taken_counts TakesNumber x env ws =
     let c = declared_counts x.bytes (AScalar env.scalars) env in
-    let r = parameter_counts xs (with_scalar x env) in
-    let q = r.0 in
-    let l : length (x ∷ xs) ≡ suc (length xs) = refl in
-    (omega (arith, q, l), r.1 ∙ c.1, r.2 ∙ c.2)
+    (omega arith, ap (λ (k : ℕ). k + arrays_among ws) c.1, c.2)
+taken_counts TakesArray x env ws =
+    let c = declared_counts x.bytes (AnArray env.arrays) env in
+    (ap (λ (k : ℕ). k + numbers_among ws) c.0, omega arith, c.2)
+
+taken_ties : (P : tree.Program) (sc : accepted.Scope) (m n : ℕ) (w : Takes) (x : Name) (env : Environment) (ws : List Takes) → sc.scalars ≡ below m → sc.arrays ≡ map (λ k. length P.globals + k) (below n)
+    → env.scalars + numbers_among (w ∷ ws) ≤ m → env.arrays + arrays_among (w ∷ ws) ≤ length P.globals + n → Ties P sc env → Ties P sc (with_taken w x env)
+taken_ties P sc m n TakesNumber x env ws s a h k t =
+    let few : env.scalars + suc (numbers_among ws) ≤ m = h in
+    let c = declared_counts x.bytes (AScalar env.scalars) env in
+    record {
+      fits = declared_fits P x.bytes (AScalar env.scalars) sc env (ap (λ (z : List ℕ). is_in env.scalars z) s ∙ in_below env.scalars m (omega (arith, few))) t.fits.names t.fits.takes;
+      own = (let o = t.own in let q = c.1 in omega (arith, o, q));
+    }
+taken_ties P sc m n TakesArray x env ws s a h k t =
+    let few : env.arrays + suc (arrays_among ws) ≤ length P.globals + n = k in
+    let o = t.own in
+    record {
+      fits = declared_fits P x.bytes (AnArray env.arrays) sc env (array_in_force P sc env.arrays n a t.own (omega (arith, few))) t.fits.names t.fits.takes;
+      own = omega (arith, o);
+    }
+
+parameter_ties : (P : tree.Program) (sc : accepted.Scope) (m n : ℕ) (qs : List Parameter) (env : Environment) → sc.scalars ≡ below m → sc.arrays ≡ map (λ k. length P.globals + k) (below n)
+    → env.scalars + numbers_among (takes_of qs) ≤ m → env.arrays + arrays_among (takes_of qs) ≤ length P.globals + n → Ties P sc env → Ties P sc (with_parameters qs env)
+parameter_ties P sc m n [] env s a h k t = t
+parameter_ties P sc m n (q ∷ qs) env s a h k t =
+    let c = taken_counts q.takes q.name env (takes_of qs) in
+    let c0 = c.0 in
+    let c1 = c.1 in
+    let few : env.scalars + numbers_among (q.takes ∷ takes_of qs) ≤ m = h in
+    let less : env.arrays + arrays_among (q.takes ∷ takes_of qs) ≤ length P.globals + n = k in
+    parameter_ties P sc m n qs (with_parameter q env) s a (omega (arith, c0, few)) (omega (arith, c1, less)) (taken_ties P sc m n q.takes q.name env (takes_of qs) s a h k t)
+
+pub parameter_counts : (qs : List Parameter) (env : Environment)
+    → ((with_parameters qs env).scalars ≡ env.scalars + numbers_among (takes_of qs)) × ((with_parameters qs env).arrays ≡ env.arrays + arrays_among (takes_of qs)) × ((with_parameters qs env).sizes ≡ env.sizes)
+parameter_counts [] env = (omega arith, omega arith, refl)
+parameter_counts (q ∷ qs) env =
+    let c = taken_counts q.takes q.name env (takes_of qs) in
+    let r = parameter_counts qs (with_parameter q env) in
+    (r.0 ∙ c.0, r.1 ∙ c.1, r.2 ∙ c.2)
 
 module _ (p : Program) where
-  function_ties : (above m : ℕ) → Ties (resolved p) (record { scalars = below m; arrays = [] }) (at_function p above)
-  function_ties above m = record {
-    fits = predeclared_fit (resolved p) (record { scalars = below m; arrays = [] }) (known_of above (names_of p)) (known_fit (resolved p) (record { scalars = below m; arrays = [] }) above (names_of p) (names_fit p (resolved p) (record { scalars = below m; arrays = [] }) [] [] 0 0 0 p.definitions refl refl refl refl));
+  function_ties : (sc : accepted.Scope) (above : ℕ) → Ties (resolved p) sc (at_function p above)
+  function_ties sc above = record {
+    fits = record {
+      names = predeclared_fit (resolved p) sc (known_of above (names_of p)) (known_fit (resolved p) sc above (names_of p) (names_fit p (resolved p) sc [] [] 0 0 0 p.definitions refl refl refl refl));
+      takes = takes_fit p 0 p.definitions;
+    };
     own = omega arith;
   }
 
   function_suits : (above : ℕ) (f : Function) → function_faults (at_function p above) f ≡ [] → function_words (function_in (at_function p above) f) ≡ true → suits_function (resolved p) (function_in (at_function p above) f) ≡ true
   function_suits above f h w =
-      let n = length f.parameters in
+      let n = numbers_among (takes_of f.parameters) in
+      let m = arrays_among (takes_of f.parameters) in
       let start = with_parameters f.parameters (at_function p above) in
       let last = behind f.body (with_parameters f.parameters (at_function p above)) in
-      let force : accepted.Scope = record { scalars = below (length f.parameters); arrays = [] } in
+      let force : accepted.Scope = record { scalars = below (numbers_among (takes_of f.parameters)); arrays = map (λ k. length (resolved p).globals + k) (below (arrays_among (takes_of f.parameters))) } in
       let faultless = none_right (parameter_faults (at_function p above) f.parameters) (code_faults f.gives false (with_parameters f.parameters (at_function p above)) f.body) h in
       let counts = parameter_counts f.parameters (at_function p above) in
-      let few : 0 + length f.parameters ≤ length f.parameters = omega arith in
-      let ties = parameter_ties (resolved p) (record { scalars = below (length f.parameters); arrays = [] }) (length f.parameters) f.parameters (at_function p above) refl few (function_ties above (length f.parameters)) in
+      let few : 0 + numbers_among (takes_of f.parameters) ≤ numbers_among (takes_of f.parameters) = omega arith in
+      let less : length (resolved p).globals + arrays_among (takes_of f.parameters) ≤ length (resolved p).globals + arrays_among (takes_of f.parameters) = omega arith in
+      let ties = parameter_ties (resolved p) force n m f.parameters (at_function p above) refl refl few less (function_ties force above) in
       let scalars = scalars_numbered f.body (with_parameters f.parameters (at_function p above)) in
       let arrays = arrays_numbered f.body (with_parameters f.parameters (at_function p above)) in
       let sizes = sized f.gives false f.body (with_parameters f.parameters (at_function p above)) faultless in
-      let first : (with_parameters f.parameters (at_function p above)).scalars ≡ length f.parameters = (let k = counts.0 in omega (arith, k)) in
+      let first : (with_parameters f.parameters (at_function p above)).scalars ≡ numbers_among (takes_of f.parameters) = (let k = counts.0 in omega (arith, k)) in
       let rise = numbers_rise start.scalars last.scalars (scalars_of (code_in start f.body)) scalars in
       let all_sizes : last.sizes ≡ sizes.more = sizes.sizes ∙ ap (λ (z : List ℕ). z ++ sizes.more) counts.2 in
       let long : last.arrays - start.arrays ≡ length last.sizes = (let k = sizes.arrays in let l = ap (λ (z : List ℕ). length z) all_sizes in omega (arith, k, l)) in
-      and_both (suits_code (resolved p) f.gives false force (code_in start f.body) && at_most n last.scalars)
-      (are_all_from n (last.scalars - n) (scalars_of (code_in start f.body)) && (are_all_from (length (resolved p).globals) (length last.sizes) (arrays_of (code_in start f.body)) && list_all (nat_lt 0) last.sizes))
-      (and_both (suits_code (resolved p) f.gives false force (code_in start f.body)) (at_most n last.scalars)
-      (code_suits (resolved p) f.gives false f.body (record { scalars = below (length f.parameters); arrays = [] }) (with_parameters f.parameters (at_function p above)) ties w faultless)
-      (lt_true n (suc last.scalars) (omega (arith, rise, first))))
-      (and_both (are_all_from n (last.scalars - n) (scalars_of (code_in start f.body))) (are_all_from (length (resolved p).globals) (length last.sizes) (arrays_of (code_in start f.body)) && list_all (nat_lt 0) last.sizes)
+      and_both (suits_code (resolved p) f.gives false force (code_in start f.body) && (at_most n last.scalars && nat_eq n n))
+      (are_all_from n (last.scalars - n) (scalars_of (code_in start f.body)) && (are_all_from (length (resolved p).globals + m) (length last.sizes) (arrays_of (code_in start f.body)) && list_all (nat_lt 0) last.sizes))
+      (and_both (suits_code (resolved p) f.gives false force (code_in start f.body)) (at_most n last.scalars && nat_eq n n)
+      (code_suits (resolved p) f.gives false f.body force (with_parameters f.parameters (at_function p above)) ties w faultless)
+      (and_both (at_most n last.scalars) (nat_eq n n) (lt_true n (suc last.scalars) (omega (arith, rise, first))) (eq_itself n)))
+      (and_both (are_all_from n (last.scalars - n) (scalars_of (code_in start f.body))) (are_all_from (length (resolved p).globals + m) (length last.sizes) (arrays_of (code_in start f.body)) && list_all (nat_lt 0) last.sizes)
       (subst (λ (z : ℕ). are_all_from z (last.scalars - z) (scalars_of (code_in start f.body)) ≡ true) first (numbers_all start.scalars last.scalars (scalars_of (code_in start f.body)) scalars))
-      (and_both (are_all_from (length (resolved p).globals) (length last.sizes) (arrays_of (code_in start f.body))) (list_all (nat_lt 0) last.sizes)
+      (and_both (are_all_from (length (resolved p).globals + m) (length last.sizes) (arrays_of (code_in start f.body))) (list_all (nat_lt 0) last.sizes)
       (subst (λ (z : ℕ). are_all_from z (length last.sizes) (arrays_of (code_in start f.body)) ≡ true) counts.1
       (subst (λ (z : ℕ). are_all_from start.arrays z (arrays_of (code_in start f.body)) ≡ true) long (numbers_all start.arrays last.arrays (arrays_of (code_in start f.body)) arrays)))
       (ap (λ (z : List ℕ). list_all (nat_lt 0) z) all_sizes ∙ sizes.positive)))
@@ -161,6 +217,7 @@ module _ (p : Program) where
       let t = function_in (at_function p above) f in
       let here : is_main (AFunction f) ≡ true → accepted.is_main (slice_get (resolved p).functions n) ≡ true
       = λ m. ap (λ (z : Option tree.Function). accepted.is_main z) (slice_at fdone (functions_from p (above + 1) ds) (resolved p).functions (function_in (at_function p above) f) n e l)
+      ∙ ap (λ (k : ℕ). gives_int f.gives && nat_eq k 0) (takes_length f.parameters)
       ∙ and_right (same_name (codes "main") f.name.bytes) (gives_int f.gives && nat_eq (length f.parameters) 0) m in
       let later : list_any is_main ds ≡ true → accepted.is_main (slice_get (resolved p).functions (main_from (n + 1) ds)) ≡ true
       = λ m. main_there (fdone ++ function_in (at_function p above) f ∷ []) (above + 1) (n + 1) ds (shifted fdone (functions_from p (above + 1) ds) (resolved p).functions (function_in (at_function p above) f) e) (one_more fdone (function_in (at_function p above) f) n l) m in

@@ -2,6 +2,7 @@
 use Rattle.std.proofs.Common.{◌≡◌, ◌<◌, ◌≤◌, ◌+◌, ◌*◌, ℕ, zero, suc, length, drop, get_or, List, [], ◌∷◌, ap, arith}
 use Rattle.vx_ast.specs.declared.syntax.Name.{Name}
 use Rattle.vx_ast.specs.declared.syntax.Expression.{Expression}
+use Rattle.vx_ast.specs.declared.syntax.Argument.{Argument}
 use Rattle.vx_ast.specs.declared.syntax.Statement.{Statement}
 use Rattle.vx_ast.specs.Syntax.{Phrase, Number, Use, Element, Call, Unary, Binary, Both, Either, Choice, NoMore, Then, Code, Seq, Block, If, IfElse, While, DoWhile, For}
 use Rattle.vx_ast.specs.Tree.{Shape, One}
@@ -19,7 +20,7 @@ phrase_weight (Both a b) = suc (phrase_weight a + phrase_weight b)
 phrase_weight (Either a b) = suc (phrase_weight a + phrase_weight b)
 phrase_weight (Choice a b c) = suc (phrase_weight a + (phrase_weight b + phrase_weight c))
 phrase_weight NoMore = 0
-phrase_weight (Then a row) = suc (phrase_weight a + phrase_weight row)
+phrase_weight (Then at a row) = suc (phrase_weight a + phrase_weight row)
 
 abbrev pub code_weight : Code → ℕ
 code_weight (Seq a b) = suc (code_weight a + code_weight b)
@@ -58,9 +59,13 @@ boxed_falls s p x d t m e i h = let f = ap phrase_weight e in let j = ap (λ (z 
 pub behind_falls : (s p : Phrase One) (x d : Expression) (t : ℕ) → 3 * phrase_weight s ≡ t → s ≡ p → d ≡ x → phrase_weight (phrase_of x) < phrase_weight p → 3 * phrase_weight (phrase_of d) + 2 < t
 behind_falls s p x d t m e i h = let f = ap phrase_weight e in let j = ap (λ (z : Expression). phrase_weight (phrase_of z)) i in omega (arith, m, f, j, h)
 
-pub row_falls : (s : Phrase One) (f : Name) (all row : List Expression) (t : ℕ) → 3 * phrase_weight s ≡ t → s ≡ Call f (row_in all) → row ≡ all → 3 * phrase_weight (row_in row) + 1 < t
+pub row_falls : (s : Phrase One) (f : Name) (all row : List Argument) (t : ℕ) → 3 * phrase_weight s ≡ t → s ≡ Call f (row_in all) → row ≡ all → 3 * phrase_weight (row_in row) + 1 < t
 row_falls s f all row t m e i =
-    let g : phrase_weight s ≡ suc (phrase_weight (row_in all)) = ap phrase_weight e in let j = ap (λ (z : List Expression). phrase_weight (row_in z)) i in omega (arith, m, g, j)
+    let g : phrase_weight s ≡ suc (phrase_weight (row_in all)) = ap phrase_weight e in let j = ap (λ (z : List Argument). phrase_weight (row_in z)) i in omega (arith, m, g, j)
+
+pub application_falls : (s : Phrase One) (f : Name) (all row : List Argument) (t : ℕ) → 3 * phrase_weight s ≡ t → s ≡ Call f (row_in all) → row ≡ all → 3 * phrase_weight (row_in row) + 2 < t
+application_falls s f all row t m e i =
+    let g : phrase_weight s ≡ suc (phrase_weight (row_in all)) = ap phrase_weight e in let j = ap (λ (z : List Argument). phrase_weight (row_in z)) i in omega (arith, m, g, j)
 
 -- the same one, by a function of lower rank
 pub to_none : (n t : ℕ) → 3 * n + 1 ≡ t → 3 * n < t
@@ -69,18 +74,28 @@ to_none n t d = omega (arith, d)
 pub to_one : (n t : ℕ) → 3 * n + 2 ≡ t → 3 * n + 1 < t
 to_one n t d = omega (arith, d)
 
-row_drop : (xs : List Expression) (i : ℕ) → phrase_weight (row_in (drop i xs)) ≤ phrase_weight (row_in xs)
+pub to_two : (n t : ℕ) → 3 * n + 3 ≡ t → 3 * n + 2 < t
+to_two n t d = omega (arith, d)
+
+pub from_three : (n t : ℕ) → 3 * n + 3 ≡ t → 3 * n < t
+from_three n t d = omega (arith, d)
+
+row_drop : (xs : List Argument) (i : ℕ) → phrase_weight (row_in (drop i xs)) ≤ phrase_weight (row_in xs)
 row_drop xs zero = omega arith
 row_drop [] (suc i) = omega arith
 row_drop (y ∷ ys) (suc i) = let f = row_drop ys i in omega (arith, f)
 
-in_row : (xs : List Expression) (i : ℕ) (x : Expression) → i < length xs → x ≡ get_or xs i x → phrase_weight (phrase_of x) ≤ phrase_weight (row_in xs)
+in_row : (xs : List Argument) (i : ℕ) (x : Argument) → i < length xs → x ≡ get_or xs i x → phrase_weight (phrase_of x.expression) < phrase_weight (row_in xs)
 in_row xs i x h e =
-    let f : phrase_weight (row_in (drop i xs)) ≡ suc (phrase_weight (phrase_of x) + phrase_weight (row_in (drop (i + 1) xs))) = ap (λ (z : List Expression). phrase_weight (row_in z)) (drop_next xs i x h e) in
+    let f : phrase_weight (row_in (drop i xs)) ≡ suc (phrase_weight (phrase_of x.expression) + phrase_weight (row_in (drop (i + 1) xs))) = ap (λ (z : List Argument). phrase_weight (row_in z)) (drop_next xs i x h e) in
     let g = row_drop xs i in omega (arith, f, g)
 
-pub argument_falls : (xs : List Expression) (i : ℕ) (x : Expression) (t : ℕ) → 3 * phrase_weight (row_in xs) + 1 ≡ t → i < length xs → x ≡ get_or xs i x → 3 * phrase_weight (phrase_of x) < t
+-- an argument of a row, with its place and without it
+pub argument_falls : (xs : List Argument) (i : ℕ) (x : Argument) (t : ℕ) → 3 * phrase_weight (row_in xs) + 1 ≡ t → i < length xs → x ≡ get_or xs i x → 3 * phrase_weight (phrase_of x.expression) + 3 < t
 argument_falls xs i x t d h e = let f = in_row xs i x h e in omega (arith, d, f)
+
+pub expression_falls : (xs : List Argument) (i : ℕ) (x : Argument) (t : ℕ) → 3 * phrase_weight (row_in xs) + 1 ≡ t → i < length xs → x ≡ get_or xs i x → 3 * phrase_weight (phrase_of x.expression) + 1 < t
+expression_falls xs i x t d h e = let f = in_row xs i x h e in omega (arith, d, f)
 
 -- a part of a statement, by a function of each rank
 

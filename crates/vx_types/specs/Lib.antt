@@ -1,3 +1,4 @@
+pub mod Arguments
 pub mod Onto
 pub mod Whole
 pub mod Laws

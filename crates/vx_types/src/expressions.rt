@@ -1,17 +1,21 @@
 // Expressions whose names stand with their declarations.
 
-ghost use Rattle.std.specs.Prelude.{◌≡◌, IfOk};
-ghost use Rattle.vx_ast.specs.Resolved.{array_named, call_named, number_named, place_named, target_in, tree_in};
+ghost use Rattle.std.specs.Prelude.{◌≡◌, [], IfOk};
+ghost use Rattle.vx_ast.specs.Resolved as resolved;
+ghost use Rattle.vx_ast.specs.Resolved.{array_in, array_named, call_named, number_named, place_named, target_in, tree_in};
 ghost use Rattle.vx_ast.specs.SyntaxView.{phrase_of, row_in};
 ghost use Rattle.vx_ast.specs.Tree as tree;
+ghost use Rattle.vx_ast.specs.Tree.{Row, Tree};
 ghost use Rattle.vx_ast.specs.View.{place_of, tree_of};
 ghost use Rattle.vx_ast.specs.View as view;
+ghost use Rattle.vx_types.specs.Arguments.{argument_in};
 
+use crate::arguments::taken_at;
 use crate::memory::{append, boxed};
 use std::alloc::Global;
 use vx_ast::names::Named;
 use vx_ast::syntax;
-use vx_ast::tree::{Expression, Target};
+use vx_ast::tree::{Argument, Expression, Takes, Target};
 use vx_base::outcome::NoMemory;
 use vx_names::names::Names;
 
@@ -36,7 +40,7 @@ fn number_named(named: Option<Named>) -> Expression
     }
 }
 
-// A name with an index.
+// A name with an index, or as an argument where an array is taken.
 fn array_named(named: Option<Named>) -> u32
     ensures { result ≡ array_named named }
 {
@@ -51,8 +55,8 @@ fn array_named(named: Option<Named>) -> u32
 
 // A name with arguments.
 #[tactic(auto, using(vx_limits::proofs::Views::call_view))]
-fn call_named(named: Option<Named>, row: Vec<Expression>) -> Expression
-    ensures { tree_of result ≡ call_named named (view.row_in row.items) }
+fn call_named(named: Option<Named>, row: Vec<Argument>) -> Expression
+    ensures { tree_of result ≡ call_named named (view.arguments_in row.items) }
 {
     match named {
         None => Expression::Number(0),
@@ -79,6 +83,16 @@ fn place_named(named: Option<Named>) -> Target
     }
 }
 
+// The array that an argument names.
+fn array_in(names: &Names, expression: &syntax::Expression) -> u32
+    ensures { result ≡ array_in names.now (phrase_of expression.now) }
+{
+    match expression {
+        syntax::Expression::Name(name) => array_named(names.named(name.bytes.as_slice())),
+        _ => 0,
+    }
+}
+
 /// An expression with what its names stand for.
 #[cycle(resolved)]
 #[tactic(auto, using(crate::proofs::Views::call_written))]
@@ -97,8 +111,9 @@ pub fn resolve(
             Ok(Expression::Element(array_named(names.named(name.bytes.as_slice())), index))
         }
         syntax::Expression::Call(name, row) => {
-            let row = resolve_row(alloc, names, row.as_slice())?;
-            Ok(call_named(names.named(name.bytes.as_slice()), row))
+            let meant = names.named(name.bytes.as_slice());
+            let row = resolve_arguments(alloc, names, names.wanted_by(meant), row.as_slice())?;
+            Ok(call_named(meant, row))
         }
         syntax::Expression::Unary(operator, operand) => {
             let operand = resolve_boxed(alloc, names, operand)?;
@@ -169,18 +184,55 @@ fn resolve_boxed(
     boxed(alloc, made)
 }
 
-/// A row of arguments with what their names stand for.
+/// Arguments with what their names stand for, where this is taken.
 #[cycle(resolved)]
+fn resolve_arguments(
+    alloc: Global,
+    names: &Names,
+    takes: &[Takes],
+    row: &[syntax::Argument],
+) -> Result<Vec<Argument>, NoMemory>
+    ensures { IfOk result (λ made. view.arguments_in made.items ≡ resolved.row_in names.now takes.now (row_in row.now)) }
+{
+    let mut made = Vec::new(alloc);
+    for (place, argument) in row.iter().enumerate() {
+        let taken = taken_at(takes, place);
+        let one = resolve_argument(alloc, names, taken, &argument.expression)?;
+        append(&mut made, one)?;
+    }
+    Ok(made)
+}
+
+/// An argument with what its names stand for, where this is taken.
+#[cycle(resolved)]
+fn resolve_argument(
+    alloc: Global,
+    names: &Names,
+    takes: Takes,
+    expression: &syntax::Expression,
+) -> Result<Argument, NoMemory>
+    ensures { IfOk result (λ made. (rest : Tree Row) → view.argument_before made rest ≡ argument_in names.now takes (phrase_of expression.now) rest) }
+{
+    match takes {
+        Takes::Number => {
+            let value = resolve(alloc, names, expression)?;
+            Ok(Argument::Number(value))
+        }
+        Takes::Array => Ok(Argument::Array(array_in(names, expression))),
+    }
+}
+
+/// What is printed with what its names stand for.
 pub fn resolve_row(
     alloc: Global,
     names: &Names,
-    row: &[syntax::Expression],
+    row: &[syntax::Argument],
 ) -> Result<Vec<Expression>, NoMemory>
-    ensures { IfOk result (λ made. view.row_in made.items ≡ tree_in names.now (row_in row.now)) }
+    ensures { IfOk result (λ made. view.row_in made.items ≡ resolved.row_in names.now [] (row_in row.now)) }
 {
     let mut made = Vec::new(alloc);
     for argument in row {
-        let one = resolve(alloc, names, argument)?;
+        let one = resolve(alloc, names, &argument.expression)?;
         append(&mut made, one)?;
     }
     Ok(made)

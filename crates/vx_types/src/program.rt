@@ -5,7 +5,7 @@ ghost use Rattle.std.specs.List.{list_any};
 ghost use Rattle.vx_ast.specs.declared.tree.Gives.TheVariants.{Int};
 ghost use Rattle.vx_ast.specs.Faults.{definitions_faults, fault_if, function_faults, is_main, least, parameter_faults, first_fault};
 ghost use Rattle.vx_ast.specs.Resolved.{function_in, main_from, resolved};
-ghost use Rattle.vx_ast.specs.Scopes.{global_of, globals_of, names_from, with_parameters};
+ghost use Rattle.vx_ast.specs.Scopes.{global_of, globals_of, names_from, takes_from, takes_of, with_parameters};
 ghost use Rattle.vx_ast.specs.Syntax as spec;
 ghost use Rattle.vx_ast.specs.SyntaxView.{definition_of, function_of, program_of};
 ghost use Rattle.vx_ast.specs.View as view;
@@ -17,9 +17,9 @@ use crate::statements::statements;
 use std::alloc::Global;
 use vx_ast::names::{Fault, FileName, Named};
 use vx_ast::syntax;
-use vx_ast::syntax::{Definition, Name};
-use vx_ast::tree::{Function, GlobalVariable, Program};
-use vx_base::listed::Listed;
+use vx_ast::syntax::{Definition, Name, Parameter};
+use vx_ast::tree::{Function, GlobalVariable, Program, Takes};
+use vx_base::listed::{Bytes, Listed};
 use vx_base::outcome::NoMemory;
 use vx_names::names::{Names, bytes_of};
 
@@ -28,20 +28,48 @@ fn parameters(
     alloc: Global,
     names: &mut Names,
     first: &mut Option<Fault>,
-    all: &[Name],
+    all: &[Parameter],
 ) -> Result<(), NoMemory>
     ensures known { OnOk result (names.new ≡ with_parameters all.now names.old) }
     ensures faults { OnOk result (first.new ≡ least first.old (parameter_faults names.old all.now)) }
 {
-    for name in all {
-        let noted = note_name(names, name, *first);
+    for one in all {
+        let noted = note_name(names, &one.name, *first);
         *first = noted;
-        names.scalar(alloc, name)?;
+        names.parameter(alloc, one)?;
     }
     Ok(())
 }
 
-// A function whose own arrays begin with this number.
+// What parameters take.
+fn takes_of(alloc: Global, all: &[Parameter]) -> Result<Listed<Takes>, NoMemory>
+    ensures { IfOk result (λ made. made ≡ takes_of all.now) }
+{
+    let mut made = Listed::new(alloc);
+    for one in all {
+        made.push(one.takes)?;
+    }
+    Ok(made)
+}
+
+/// The name of a function, and what its parameters take.
+#[derive(Drop)]
+struct Heading {
+    name: Bytes,
+    takes: Listed<Takes>,
+}
+
+// The name of a function, and what its parameters take.
+fn heading_of(alloc: Global, function: &syntax::Function) -> Result<Heading, NoMemory>
+    ensures name { IfOk result (λ made. made.name ≡ function.now.name.bytes) }
+    ensures takes { IfOk result (λ made. made.takes ≡ takes_of function.now.parameters) }
+{
+    let takes = takes_of(alloc, function.parameters.as_slice())?;
+    let name = bytes_of(alloc, function.name.bytes.as_slice())?;
+    Ok(Heading { name, takes })
+}
+
+// A function whose first array has this number.
 #[tactic(auto, using(crate::proofs::Leasts::least_append))]
 fn function(
     alloc: Global,
@@ -55,10 +83,12 @@ fn function(
     ensures faults { OnOk result (first.new ≡ least first.old (function_faults (at_start names.old arrays) (function_of function.now))) }
     ensures locals { OnOk result (names.new.locals ≡ []) }
     ensures names { OnOk result (names.new.names ≡ names.old.names) }
+    ensures takes { OnOk result (names.new.takes ≡ names.old.takes) }
     ensures above { OnOk result (names.new.above ≡ names.old.above) }
 {
     names.start(alloc, arrays);
     parameters(alloc, names, first, function.parameters.as_slice())?;
+    let numbers = names.scalars();
     let body = statements(
         alloc,
         function.gives,
@@ -68,13 +98,14 @@ fn function(
         function.body.as_slice(),
     )?;
     names.leave(alloc, 0)?;
-    let name = bytes_of(alloc, function.name.bytes.as_slice())?;
+    let heading = heading_of(alloc, function)?;
     let scalars = names.scalars();
     let arrays = names.take_sizes(alloc);
     Ok(Function {
-        name,
+        name: heading.name,
         gives: function.gives,
-        parameters: function.parameters.len() as u32,
+        parameters: numbers,
+        takes: heading.takes,
         scalars,
         arrays,
         body,
@@ -157,6 +188,46 @@ fn file_names(alloc: Global, definitions: &[Definition]) -> Result<Listed<FileNa
         add_name(alloc, &mut made, &mut arrays, &mut functions, definition)?;
     }
     Ok(made)
+}
+
+// What the function takes that a definition is, if it is one.
+fn add_takes(
+    alloc: Global,
+    made: &mut Listed<Listed<Takes>>,
+    definition: &Definition,
+) -> Result<(), NoMemory>
+    ensures { OnOk result ((ds : List spec.Definition) → made.new ++ takes_from ds ≡ made.old ++ takes_from (definition_of definition.now ∷ ds)) }
+{
+    match definition {
+        Definition::Scalar(_, _) => Ok(()),
+        Definition::Array(_, _) => Ok(()),
+        Definition::Function(function) => {
+            let takes = takes_of(alloc, function.parameters.as_slice())?;
+            made.push(takes)?;
+            Ok(())
+        }
+    }
+}
+
+// What all functions of the file take.
+fn file_takes(alloc: Global, definitions: &[Definition]) -> Result<Listed<Listed<Takes>>, NoMemory>
+    ensures { IfOk result (λ made. made ≡ takes_from (map definition_of definitions.now)) }
+{
+    let mut made = Listed::new(alloc);
+    for definition in definitions {
+        add_takes(alloc, &mut made, definition)?;
+    }
+    Ok(made)
+}
+
+// What is known before the first definition.
+fn known_first(alloc: Global, definitions: &[Definition]) -> Result<Names, NoMemory>
+    ensures { IfOk result (λ made. made ≡ record { depth = 0; locals = []; names = names_from 0 0 (map definition_of definitions.now); above = 0; takes = takes_from (map definition_of definitions.now); scalars = 0; arrays = 0; sizes = [] }) }
+{
+    let names = file_names(alloc, definitions)?;
+    let takes = file_takes(alloc, definitions)?;
+    let known = Names::new(alloc, names, takes)?;
+    Ok(known)
 }
 
 // The global variable that a definition is, if it is one.
@@ -252,6 +323,7 @@ fn definition(
     ensures faults { OnOk result (first.new ≡ least first.old (own_faults names.old arrays (definition_of definition.now))) }
     ensures locals { OnOk result (names.new.locals ≡ []) }
     ensures names { OnOk result (names.new.names ≡ names.old.names) }
+    ensures takes { OnOk result (names.new.takes ≡ names.old.takes) }
     ensures above { OnOk result (names.new.above ≡ names.old.above) }
 {
     match definition {
@@ -309,6 +381,7 @@ fn pass_definition(
     ensures faults { OnOk result (made.new.first ≡ least made.old.first (own_faults names arrays (definition_of one.now))) }
     ensures locals { IfOk result (λ behind. behind.locals ≡ []) }
     ensures names { IfOk result (λ behind. behind.names ≡ names.names) }
+    ensures takes { IfOk result (λ behind. behind.takes ≡ names.takes) }
     ensures above { IfOk result (λ behind. behind.above ≡ names.above + 1) }
 {
     let mut names = names;
@@ -335,7 +408,7 @@ fn make_functions(
     arrays: u32,
     program: &syntax::Program,
 ) -> Result<Functions, NoMemory>
-    requires start { names ≡ record { depth = 0; locals = []; names = names_from 0 0 (program_of program.now).definitions; above = 0; scalars = 0; arrays = 0; sizes = [] } }
+    requires start { names ≡ record { depth = 0; locals = []; names = names_from 0 0 (program_of program.now).definitions; above = 0; takes = takes_from (program_of program.now).definitions; scalars = 0; arrays = 0; sizes = [] } }
     requires arrays { arrays ≡ length (globals_of (program_of program.now).definitions) }
     ensures made { IfOk result (λ made. map view.function_of made.all.items ≡ (resolved (program_of program.now)).functions) }
     ensures faults { IfOk result (λ made. made.first ≡ least None (definitions_faults (program_of program.now) 0 (program_of program.now).definitions)) }
@@ -370,9 +443,8 @@ pub fn resolve_program(alloc: Global, program: &syntax::Program) -> Result<Resol
 {
     let definitions = program.definitions.as_slice();
     let main = main_number(definitions)?;
-    let file = file_names(alloc, definitions)?;
     let globals = globals(alloc, definitions)?;
-    let names = Names::new(alloc, file)?;
+    let names = known_first(alloc, definitions)?;
     let made = make_functions(alloc, names, globals.len() as u32, program)?;
     let first = note(made.first, !has_main(definitions), 10, program.end);
     Ok(Resolved {

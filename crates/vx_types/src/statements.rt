@@ -4,7 +4,8 @@
 ghost use Rattle.std.specs.Prelude.{◌≡◌, ◌++◌, ◌∷◌, [], IfOk, OnOk, false, true, length, not, option_map};
 ghost use Rattle.vx_ast.specs.declared.tree.Gives.TheVariants.{Int};
 ghost use Rattle.vx_ast.specs.Accepted.{gives_int};
-ghost use Rattle.vx_ast.specs.Faults.{action_faults, code_faults, fault_if, least, phrase_faults, prints, row_length, test_faults};
+ghost use Rattle.vx_ast.specs.Faults.{action_faults, code_faults, fault_if, least, phrase_faults, prints, row_faults, row_length, test_faults};
+ghost use Rattle.vx_ast.specs.Resolved as resolved;
 ghost use Rattle.vx_ast.specs.Resolved.{action_in, code_in, test_in, tree_in};
 ghost use Rattle.vx_ast.specs.Scopes.{behind, inside, outside};
 ghost use Rattle.vx_ast.specs.Syntax as spec;
@@ -175,13 +176,13 @@ fn printing(
     place: Place,
     format_place: Place,
     format: &[u8],
-    row: &[syntax::Expression],
+    row: &[syntax::Argument],
 ) -> Result<Statement, NoMemory>
-    ensures made { IfOk result (λ made. view.code_of made ≡ tree.Print format.now (tree_in names.now (row_in row.now))) }
-    ensures faults { OnOk result (first.new ≡ least first.old (prints place format_place format.now (row_length (row_in row.now)) ++ phrase_faults names.now (row_in row.now))) }
+    ensures made { IfOk result (λ made. view.code_of made ≡ tree.Print format.now (resolved.row_in names.now [] (row_in row.now))) }
+    ensures faults { OnOk result (first.new ≡ least first.old (prints place format_place format.now (row_length (row_in row.now)) ++ row_faults names.now [] (row_in row.now))) }
 {
     let before = note_format(place, format_place, format, row.len(), *first);
-    *first = note_row(names, row, before);
+    *first = note_row(names, &[], row, before);
     let format = bytes_of(alloc, format)?;
     let row = resolve_row(alloc, names, row)?;
     Ok(Statement::Print(format, row))

@@ -10,9 +10,9 @@ use Rattle.vx_ast.specs.Tree.{Tree, One}
 use Rattle.vx_ast.specs.SyntaxView.{phrase_of}
 use Rattle.vx_ast.specs.View.{tree_of}
 use Rattle.std.proofs.lemmas.List.{drop_all}
-use Rattle.vx_types.proofs.Rows.{call_made, row_made_step, row_made_end}
+use Rattle.vx_types.proofs.Rows.{call_made, arguments_made_step, arguments_made_end}
 use Rattle.vx_types.proofs.Views.{call_written}
-use Rattle.vx_types.proofs.Weights.{boxed_falls, behind_falls, row_falls, argument_falls, to_none, to_one, only, left, right, second, third}
+use Rattle.vx_types.proofs.Weights.{boxed_falls, behind_falls, row_falls, expression_falls, to_none, to_one, only, left, right, second, third}
 use Rattle.vx_types.proofs.expressions.+resolved.Goals as goal
 
 -- two operands, whatever is made of them
@@ -27,16 +27,18 @@ choice_made (Ok x) env s a b c test left e t l h =
 
 pub resolve-returns-in_ok-row-in-Call : goal.resolve-returns-in_ok-row-in-Call
 resolve-returns-in_ok-row-in-Call t c =
-    call_made c.args.names.now c.in-Call.name c.in-Call.row.items c.as_slice-in-Call.result.now c.as_slice-in-Call-2.result.now c.named-in-Call.result c.in_ok-row-in-Call.row.items c.call_named.result
-    c.as_slice-in-Call.ensures.value c.as_slice-in-Call-2.ensures c.named-in-Call.ensures c.in_ok-row-in-Call.ensures c.call_named.ensures
+    call_made c.args.names.now c.in-Call.name c.in-Call.row.items c.as_slice-in-Call-2.result.now c.as_slice-in-Call.result.now c.named-meant.result c.wanted_by.result.now c.in_ok-row-in-Call.row.items c.call_named.result
+    c.as_slice-in-Call-2.ensures.value c.as_slice-in-Call.ensures c.named-meant.ensures c.wanted_by.ensures c.in_ok-row-in-Call.ensures c.call_named.ensures
     ∙ ap (λ (z : Phrase One). tree_in c.args.names.now z) (sym (ap phrase_of c.in-Call.is ∙ call_written c.in-Call.name c.in-Call.row))
 
-pub resolve_row-loop-argument-preserved : goal.resolve_row-loop-argument-preserved
-resolve_row-loop-argument-preserved t c =
-    row_made_step c.args.names.now c.loop-argument.made.items c.append.new.made.items c.in_ok-one.one c.args.row.now c.loop-argument.argument-index c.argument-item.result _ c.loop-argument-test.true c.argument-item.is c.loop-argument.invariant c.in_ok-append.ensures c.in_ok-one.ensures
+pub resolve_arguments-loop-place-preserved : goal.resolve_arguments-loop-place-preserved
+resolve_arguments-loop-place-preserved t c =
+    arguments_made_step c.args.names.now c.args.takes.now c.loop-place.made.items c.append.new.made.items c.in_ok-one.one c.args.row.now c.loop-place.place c.index-row-place.result c.taken_at-taken.result _ c.loop-place-test.true c.index-row-place.is c.taken_at-taken.ensures
+    c.loop-place.invariant c.in_ok-append.ensures c.in_ok-one.ensures
 
-pub resolve_row-returns : goal.resolve_row-returns
-resolve_row-returns t c = row_made_end c.args.names.now c.loop-argument.made.items (drop c.loop-argument.argument-index c.args.row.now) _ (drop_all c.loop-argument.argument-index c.args.row.now c.loop-argument-test.false) c.loop-argument.invariant
+pub resolve_arguments-returns : goal.resolve_arguments-returns
+resolve_arguments-returns t c =
+    arguments_made_end c.args.names.now (drop c.loop-place.place c.args.takes.now) c.loop-place.made.items (drop c.loop-place.place c.args.row.now) _ (drop_all c.loop-place.place c.args.row.now c.loop-place-test.false) c.loop-place.invariant
 
 pub resolve-returns-in_ok-both-in-Binary : goal.resolve-returns-in_ok-both-in-Binary
 resolve-returns-in_ok-both-in-Binary t c =
@@ -110,8 +112,8 @@ resolve-resolve_boxed-requires-in-Choice-2 t c = (boxed_falls (phrase_of c.args.
 pub resolve-choice_behind-requires : goal.resolve-choice_behind-requires
 resolve-choice_behind-requires t c = (behind_falls (phrase_of c.args.expression.now) (syntax.Choice (phrase_of c.in-Choice.test.value) (phrase_of c.in-Choice.left.value) (phrase_of c.in-Choice.right.value)) c.in-Choice.right.value c.deref-in-Choice-3.result.now t c.decreases (ap phrase_of c.in-Choice.is) c.deref-in-Choice-3.ensures (third _ _ _), tt)
 
-pub resolve-resolve_row-requires : goal.resolve-resolve_row-requires
-resolve-resolve_row-requires t c = (row_falls (phrase_of c.args.expression.now) c.in-Call.name c.in-Call.row.items c.as_slice-in-Call.result.now t c.decreases (ap phrase_of c.in-Call.is ∙ call_written c.in-Call.name c.in-Call.row) c.as_slice-in-Call.ensures.value, tt)
+pub resolve-resolve_arguments-requires : goal.resolve-resolve_arguments-requires
+resolve-resolve_arguments-requires t c = (row_falls (phrase_of c.args.expression.now) c.in-Call.name c.in-Call.row.items c.as_slice-in-Call-2.result.now t c.decreases (ap phrase_of c.in-Call.is ∙ call_written c.in-Call.name c.in-Call.row) c.as_slice-in-Call-2.ensures.value, tt)
 
 pub resolve_boxed-resolve-requires : goal.resolve_boxed-resolve-requires
 resolve_boxed-resolve-requires t c = (to_none _ t c.decreases, tt)
@@ -122,5 +124,5 @@ resolve_behind-resolve_boxed-requires t c = (to_one _ t c.decreases, tt)
 pub choice_behind-resolve_boxed-requires : goal.choice_behind-resolve_boxed-requires
 choice_behind-resolve_boxed-requires t c = (to_one _ t c.decreases, tt)
 
-pub resolve_row-resolve-requires : goal.resolve_row-resolve-requires
-resolve_row-resolve-requires t c = (argument_falls c.args.row.now c.loop-argument.argument-index c.argument-item.result t c.decreases c.loop-argument-test.true c.argument-item.is, tt)
+pub resolve_arguments-resolve_argument-requires : goal.resolve_arguments-resolve_argument-requires
+resolve_arguments-resolve_argument-requires t c = (expression_falls c.args.row.now c.loop-place.place c.index-row-place.result t c.decreases c.loop-place-test.true c.index-row-place.is, tt)

@@ -1,26 +1,36 @@
-use Rattle.std.proofs.Common.{◌≡◌, ◌++◌, false, Option, ap, sym, ◌∙◌}
+use Rattle.std.proofs.Common.{◌≡◌, ◌++◌, drop, List, Option, refl, ap, sym, ◌∙◌}
+use Rattle.std.proofs.lemmas.List.{drop_all}
 use Rattle.vx_ast.specs.declared.names.Fault.{Fault}
 use Rattle.vx_ast.specs.declared.syntax.Expression.{Expression}
+use Rattle.vx_ast.specs.declared.syntax.Argument.{Argument}
 use Rattle.vx_ast.specs.Faults.{least, phrase_faults}
 use Rattle.vx_ast.specs.Syntax as syntax
 use Rattle.vx_ast.specs.Syntax.{Phrase}
 use Rattle.vx_ast.specs.Tree.{One}
-use Rattle.vx_ast.specs.SyntaxView.{phrase_of}
+use Rattle.vx_ast.specs.SyntaxView.{phrase_of, row_in}
 use Rattle.vx_types.proofs.Leasts.{least_append}
-use Rattle.vx_types.proofs.Rows.{call_faults, row_faults_step}
+use Rattle.vx_types.proofs.Rows.{application_faults, row_faults_step, row_faults_end}
 use Rattle.vx_types.proofs.Views.{call_written}
-use Rattle.vx_types.proofs.Weights.{part_falls, row_falls, argument_falls, only, left, right, second, third}
+use Rattle.vx_types.proofs.Weights.{part_falls, application_falls, argument_falls, to_one, only, left, right, second, third}
 use Rattle.vx_types.proofs.kinds.+faults.Goals as goal
 
 pub note_expression-returns-in-Call : goal.note_expression-returns-in-Call
 note_expression-returns-in-Call t c =
-    call_faults false c.args.names.now c.in-Call.name c.in-Call.row.items c.as_slice-arguments.result.now c.as_slice-in-Call.result.now c.named-in-Call.result c.args.first c.note_called-kind.result c.note_row.result
-    c.as_slice-arguments.ensures.value c.as_slice-in-Call.ensures c.named-in-Call.ensures c.note_called-kind.ensures c.note_row.ensures
+    c.note_application.ensures
+    ∙ ap (λ (z : List Argument). least c.args.first (phrase_faults c.args.names.now (syntax.Call c.in-Call.name (row_in z)))) c.as_slice-in-Call.ensures.value
     ∙ ap (λ (z : Phrase One). least c.args.first (phrase_faults c.args.names.now z)) (sym (ap phrase_of c.in-Call.is ∙ call_written c.in-Call.name c.in-Call.row))
 
-pub note_row-loop-argument-preserved : goal.note_row-loop-argument-preserved
-note_row-loop-argument-preserved t c =
-    row_faults_step c.args.names.now c.loop-argument.least c.note_expression-least.result c.args.row.now c.loop-argument.argument-index c.argument-item.result _ c.loop-argument-test.true c.argument-item.is c.loop-argument.invariant c.note_expression-least.ensures
+pub note_application-returns : goal.note_application-returns
+note_application-returns t c =
+    application_faults c.args.whole c.args.names.now c.args.name.now c.args.row.now _ c.as_slice.result.now c.named-meant.result c.wanted_by.result.now c.args.first c.note_called-kind.result c.note_row.result
+    refl c.as_slice.ensures c.named-meant.ensures c.wanted_by.ensures c.note_called-kind.ensures c.note_row.ensures
+
+pub note_row-loop-place-preserved : goal.note_row-loop-place-preserved
+note_row-loop-place-preserved t c =
+    row_faults_step c.args.names.now c.args.takes.now c.loop-place.least c.note_argument-least.result c.args.row.now c.loop-place.place c.index-row-place.result c.taken_at.result _ c.loop-place-test.true c.index-row-place.is c.taken_at.ensures c.loop-place.invariant c.note_argument-least.ensures
+
+pub note_row-returns : goal.note_row-returns
+note_row-returns t c = row_faults_end c.args.names.now (drop c.loop-place.place c.args.takes.now) c.loop-place.least (drop c.loop-place.place c.args.row.now) _ (drop_all c.loop-place.place c.args.row.now c.loop-place-test.false) c.loop-place.invariant
 
 pub note_expression-returns-in-Binary : goal.note_expression-returns-in-Binary
 note_expression-returns-in-Binary t c =
@@ -98,8 +108,11 @@ note_expression-note_expression-before-requires-in-Choice t c = (part_falls (phr
 pub note_expression-note_expression-requires-in-Choice : goal.note_expression-note_expression-requires-in-Choice
 note_expression-note_expression-requires-in-Choice t c = (part_falls (phrase_of c.args.expression.now) (syntax.Choice (phrase_of c.in-Choice.test.value) (phrase_of c.in-Choice.left.value) (phrase_of c.in-Choice.right.value)) c.in-Choice.right.value c.deref-in-Choice-3.result.now t c.decreases (ap phrase_of c.in-Choice.is) c.deref-in-Choice-3.ensures (third _ _ _), tt)
 
-pub note_expression-note_row-requires : goal.note_expression-note_row-requires
-note_expression-note_row-requires t c = (row_falls (phrase_of c.args.expression.now) c.in-Call.name c.in-Call.row.items c.as_slice-arguments.result.now t c.decreases (ap phrase_of c.in-Call.is ∙ call_written c.in-Call.name c.in-Call.row) c.as_slice-arguments.ensures.value, tt)
+pub note_expression-note_application-requires : goal.note_expression-note_application-requires
+note_expression-note_application-requires t c = (application_falls (phrase_of c.args.expression.now) c.in-Call.name c.in-Call.row.items c.as_slice-in-Call.result.now t c.decreases (ap phrase_of c.in-Call.is ∙ call_written c.in-Call.name c.in-Call.row) c.as_slice-in-Call.ensures.value, tt)
 
-pub note_row-note_expression-least-requires : goal.note_row-note_expression-least-requires
-note_row-note_expression-least-requires t c = (argument_falls c.args.row.now c.loop-argument.argument-index c.argument-item.result t c.decreases c.loop-argument-test.true c.argument-item.is, tt)
+pub note_application-note_row-requires : goal.note_application-note_row-requires
+note_application-note_row-requires t c = (to_one _ t c.decreases, tt)
+
+pub note_row-note_argument-least-requires : goal.note_row-note_argument-least-requires
+note_row-note_argument-least-requires t c = (argument_falls c.args.row.now c.loop-place.place c.index-row-place.result t c.decreases c.loop-place-test.true c.index-row-place.is, tt)

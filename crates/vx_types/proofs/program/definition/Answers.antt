@@ -40,6 +40,9 @@ returns-in_err-made-in-Function-clause-locals c = IfOk-from_err _ _ c.from_resid
 pub returns-in_err-made-in-Function-clause-names : goal.returns-in_err-made-in-Function-clause-names
 returns-in_err-made-in-Function-clause-names c = IfOk-from_err _ _ c.from_residual.ensures.0
 
+pub returns-in_err-made-in-Function-clause-takes : goal.returns-in_err-made-in-Function-clause-takes
+returns-in_err-made-in-Function-clause-takes c = IfOk-from_err _ _ c.from_residual.ensures.0
+
 pub returns-in_err-made-in-Function-clause-above : goal.returns-in_err-made-in-Function-clause-above
 returns-in_err-made-in-Function-clause-above c = IfOk-from_err _ _ c.from_residual.ensures.0
 
@@ -54,6 +57,9 @@ returns-in_err-push-in-Function-clause-locals c = IfOk-from_err _ _ c.from_resid
 
 pub returns-in_err-push-in-Function-clause-names : goal.returns-in_err-push-in-Function-clause-names
 returns-in_err-push-in-Function-clause-names c = IfOk-from_err _ _ c.from_residual-in_err-push-in-Function.ensures.0
+
+pub returns-in_err-push-in-Function-clause-takes : goal.returns-in_err-push-in-Function-clause-takes
+returns-in_err-push-in-Function-clause-takes c = IfOk-from_err _ _ c.from_residual-in_err-push-in-Function.ensures.0
 
 pub returns-in_err-push-in-Function-clause-above : goal.returns-in_err-push-in-Function-clause-above
 returns-in_err-push-in-Function-clause-above c = IfOk-from_err _ _ c.from_residual-in_err-push-in-Function.ensures.0
@@ -71,6 +77,9 @@ returns-in_ok-push-in-Function-clause-locals c = c.in_ok-made-in-Function.ensure
 
 pub returns-in_ok-push-in-Function-clause-names : goal.returns-in_ok-push-in-Function-clause-names
 returns-in_ok-push-in-Function-clause-names c = c.in_ok-made-in-Function.ensures.names
+
+pub returns-in_ok-push-in-Function-clause-takes : goal.returns-in_ok-push-in-Function-clause-takes
+returns-in_ok-push-in-Function-clause-takes c = c.in_ok-made-in-Function.ensures.takes
 
 pub returns-in_ok-push-in-Function-clause-above : goal.returns-in_ok-push-in-Function-clause-above
 returns-in_ok-push-in-Function-clause-above c = c.in_ok-made-in-Function.ensures.above

@@ -25,7 +25,7 @@ loop-one-preserved c =
     let e : c.one-item.result ≡ get_or c.args.program.now.definitions.items c.loop-one.one-index c.one-item.result = c.one-item.is ∙ ap (λ (z : List Written). get_or z c.loop-one.one-index c.one-item.result) v in
     passed_step (program_of c.args.program.now) c.args.arrays (map view.function_of c.loop-one.made.all.items) (map view.function_of c.pass_definition.new.made.all.items) c.loop-one.names c.in_ok-behind.behind c.loop-one.made.first c.pass_definition.new.made.first c.loop-one.one-index
     (map definition_of (drop c.loop-one.one-index c.args.program.now.definitions.items)) (map definition_of (drop (c.loop-one.one-index + 1) c.args.program.now.definitions.items)) (definition_of c.one-item.result)
-    c.loop-one.invariant (next_seen c.args.program.now.definitions.items c.loop-one.one-index c.one-item.result h e) c.in_ok-behind.ensures.made c.in_ok-behind.ensures.faults c.in_ok-behind.ensures.locals c.in_ok-behind.ensures.names c.in_ok-behind.ensures.above
+    c.loop-one.invariant (next_seen c.args.program.now.definitions.items c.loop-one.one-index c.one-item.result h e) c.in_ok-behind.ensures.made c.in_ok-behind.ensures.faults c.in_ok-behind.ensures.locals c.in_ok-behind.ensures.names c.in_ok-behind.ensures.above c.in_ok-behind.ensures.takes
 
 pub loop-one-init : goal.loop-one-init
 loop-one-init c =

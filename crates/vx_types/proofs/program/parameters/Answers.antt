@@ -3,7 +3,7 @@ use Rattle.vx_names.proofs.Lists.{drop_next}
 use Rattle.vx_types.proofs.Wholes.{parameters_step}
 use Rattle.vx_types.proofs.program.parameters.Goals as goal
 
-pub loop-name-preserved : goal.loop-name-preserved
-loop-name-preserved c =
-    parameters_step c.loop-name.names c.scalar.new.self c.loop-name.first c.note_name-noted.result (drop c.loop-name.name-index c.args.all.now) (drop (c.loop-name.name-index + 1) c.args.all.now) c.name-item.result c.args.names.now c.args.first.now c.args.all.now
-    c.loop-name.invariant (drop_next c.args.all.now c.loop-name.name-index c.name-item.result c.loop-name-test.true c.name-item.is) c.in_ok-scalar.ensures.declared c.note_name-noted.ensures
+pub loop-one-preserved : goal.loop-one-preserved
+loop-one-preserved c =
+    parameters_step c.loop-one.names c.parameter.new.self c.loop-one.first c.note_name-noted.result (drop c.loop-one.one-index c.args.all.now) (drop (c.loop-one.one-index + 1) c.args.all.now) c.one-item.result c.args.names.now c.args.first.now c.args.all.now
+    c.loop-one.invariant (drop_next c.args.all.now c.loop-one.one-index c.one-item.result c.loop-one-test.true c.one-item.is) c.in_ok-parameter.ensures c.note_name-noted.ensures

@@ -2,5 +2,5 @@ use Rattle.std.proofs.Common.{drop}
 use Rattle.vx_types.proofs.Wholes.{ParametersSo}
 use Rattle.vx_types.proofs.program.parameters.Given as goal
 
-abbrev pub invariant-loop-name : goal.invariant-loop-name
-invariant-loop-name l = ParametersSo l.names l.first (drop l.name-index l.fn.all) l.fn.names l.fn.first l.fn.all
+abbrev pub invariant-loop-one : goal.invariant-loop-one
+invariant-loop-one l = ParametersSo l.names l.first (drop l.one-index l.fn.all) l.fn.names l.fn.first l.fn.all

@@ -16,6 +16,9 @@ returns-in-Ok-clause-locals c = known_on c.pass.result (λ b e. ap (λ (z : Envi
 pub returns-in-Ok-clause-names : goal.returns-in-Ok-clause-names
 returns-in-Ok-clause-names c = known_on c.pass.result (λ b e. ap (λ (z : Environment). z.names) e ∙ c.in-Ok.ensures.names) c.pass.ensures
 
+pub returns-in-Ok-clause-takes : goal.returns-in-Ok-clause-takes
+returns-in-Ok-clause-takes c = known_on c.pass.result (λ b e. ap (λ (z : Environment). z.takes) e ∙ c.in-Ok.ensures.takes) c.pass.ensures
+
 pub returns-in-Ok-clause-above : goal.returns-in-Ok-clause-above
 returns-in-Ok-clause-above c = known_on c.pass.result (λ b e. ap (λ (z : Environment). z.above) e ∙ ap (λ (n : ℕ). n + 1) c.in-Ok.ensures.above) c.pass.ensures
 

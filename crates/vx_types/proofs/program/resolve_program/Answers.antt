@@ -2,10 +2,10 @@ use Rattle.std.proofs.Common.{◌≡◌, ℕ, Bool, not, List, [], length, map, 
 use Rattle.std.specs.List.{list_any}
 use Rattle.vx_ast.specs.declared.syntax.Definition.{Definition}
 use Rattle.vx_ast.specs.declared.names.Fault.{Fault}
-use Rattle.vx_ast.specs.declared.names.FileName.{FileName}
 use Rattle.vx_ast.specs.declared.tree.GlobalVariable.{GlobalVariable}
 use Rattle.vx_ast.specs.Tree as tree
-use Rattle.vx_ast.specs.Scopes.{Environment, globals_of, names_from}
+use Rattle.vx_ast.specs.Syntax as syntax
+use Rattle.vx_ast.specs.Scopes.{Environment, globals_of, names_from, takes_from}
 use Rattle.vx_ast.specs.Faults.{definitions_faults, fault_if, is_main, least}
 use Rattle.vx_ast.specs.Resolved.{main_from}
 use Rattle.vx_ast.specs.SyntaxView.{definition_of, program_of}
@@ -18,11 +18,14 @@ same x y globals functions main =
     ∙ ap (λ (z : List tree.Function). let p : tree.Program = record { globals = y.globals; functions = z; main = x.main } in p) functions
     ∙ ap (λ (z : ℕ). let p : tree.Program = record { globals = y.globals; functions = y.functions; main = z } in p) main
 
+abbrev known_first_of : List syntax.Definition → Environment
+known_first_of ds = record { depth = 0; locals = []; names = names_from 0 0 ds; above = 0; takes = takes_from ds; scalars = 0; arrays = 0; sizes = [] }
+
 pub make_functions-requires : goal.make_functions-requires
 make_functions-requires c =
     let e = c.as_slice-definitions.ensures.value in
     record {
-      start = c.in_ok-names.ensures ∙ ap (λ (z : List FileName). let n : Environment = record { depth = 0; locals = []; names = z; above = 0; scalars = 0; arrays = 0; sizes = [] } in n) (c.in_ok-file.ensures ∙ ap (λ (z : List Definition). names_from 0 0 (map definition_of z)) e);
+      start = c.in_ok-names.ensures ∙ ap (λ (z : List Definition). known_first_of (map definition_of z)) e;
       arrays = c.len.ensures.len ∙ ap (λ (z : List GlobalVariable). length z) (c.in_ok-globals.ensures ∙ ap (λ (z : List Definition). globals_of (map definition_of z)) e);
     }
 

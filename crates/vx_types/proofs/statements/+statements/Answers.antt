@@ -2,7 +2,7 @@ use Rattle.std.proofs.Common.{◌≡◌, ℕ, Bool, true, List, Option, refl, ap
 use Rattle.std.specs.Prelude.{option_map}
 use Rattle.std.proofs.lemmas.List.{drop_all}
 use Rattle.vx_ast.specs.declared.names.Fault.{Fault}
-use Rattle.vx_ast.specs.declared.syntax.Expression.{Expression}
+use Rattle.vx_ast.specs.declared.syntax.Argument.{Argument}
 use Rattle.vx_ast.specs.declared.syntax.Item.{Item}
 use Rattle.vx_ast.specs.declared.syntax.Statement.{Statement as Written}
 use Rattle.vx_ast.specs.Faults.{code_faults, fault_if, least, phrase_faults, test_faults}
@@ -172,7 +172,7 @@ statement-returns-in-Print-clause-made t c =
     let k = syntax.Print c.in-Print.place c.in-Print.format_place c.as_slice-in-Print.result.now (row_in c.as_slice-in-Print-2.result.now) in
     let e : code_of c.args.statement.now ≡ k = ap code_of c.in-Print.is
     ∙ sym (ap (λ (z : List ℕ). syntax.Print c.in-Print.place c.in-Print.format_place z (row_in c.in-Print.row.items)) c.as_slice-in-Print.ensures)
-    ∙ sym (ap (λ (z : List Expression). syntax.Print c.in-Print.place c.in-Print.format_place c.as_slice-in-Print.result.now (row_in z)) c.as_slice-in-Print-2.ensures.value) in
+    ∙ sym (ap (λ (z : List Argument). syntax.Print c.in-Print.place c.in-Print.format_place c.as_slice-in-Print.result.now (row_in z)) c.as_slice-in-Print-2.ensures.value) in
     made_by c.printing.result c.args.names.now c.args.statement.now k e c.printing.ensures.made
 
 pub statement-returns-in-Print-clause-known : goal.statement-returns-in-Print-clause-known
@@ -180,7 +180,7 @@ statement-returns-in-Print-clause-known t c =
     let k = syntax.Print c.in-Print.place c.in-Print.format_place c.as_slice-in-Print.result.now (row_in c.as_slice-in-Print-2.result.now) in
     let e : code_of c.args.statement.now ≡ k = ap code_of c.in-Print.is
     ∙ sym (ap (λ (z : List ℕ). syntax.Print c.in-Print.place c.in-Print.format_place z (row_in c.in-Print.row.items)) c.as_slice-in-Print.ensures)
-    ∙ sym (ap (λ (z : List Expression). syntax.Print c.in-Print.place c.in-Print.format_place c.as_slice-in-Print.result.now (row_in z)) c.as_slice-in-Print-2.ensures.value) in
+    ∙ sym (ap (λ (z : List Argument). syntax.Print c.in-Print.place c.in-Print.format_place c.as_slice-in-Print.result.now (row_in z)) c.as_slice-in-Print-2.ensures.value) in
     known_by c.printing.result c.args.names.now c.args.names.now c.args.statement.now k e (holds_on c.printing.result refl)
 
 pub statement-returns-in-Print-clause-faults : goal.statement-returns-in-Print-clause-faults
@@ -188,7 +188,7 @@ statement-returns-in-Print-clause-faults t c =
     let k = syntax.Print c.in-Print.place c.in-Print.format_place c.as_slice-in-Print.result.now (row_in c.as_slice-in-Print-2.result.now) in
     let e : code_of c.args.statement.now ≡ k = ap code_of c.in-Print.is
     ∙ sym (ap (λ (z : List ℕ). syntax.Print c.in-Print.place c.in-Print.format_place z (row_in c.in-Print.row.items)) c.as_slice-in-Print.ensures)
-    ∙ sym (ap (λ (z : List Expression). syntax.Print c.in-Print.place c.in-Print.format_place c.as_slice-in-Print.result.now (row_in z)) c.as_slice-in-Print-2.ensures.value) in
+    ∙ sym (ap (λ (z : List Argument). syntax.Print c.in-Print.place c.in-Print.format_place c.as_slice-in-Print.result.now (row_in z)) c.as_slice-in-Print-2.ensures.value) in
     faults_by c.printing.result c.args.gives c.args.loops c.args.names.now c.args.first.now c.printing.new.first c.args.statement.now k e c.printing.ensures.faults
 
 pub statement-returns-in-ReturnValue-clause-made : goal.statement-returns-in-ReturnValue-clause-made
