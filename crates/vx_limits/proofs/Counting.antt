@@ -1,13 +1,15 @@
 -- Loops that count what the items of a list come to, and that look for the first one over a limit.
-use Rattle.std.proofs.Common.{◌≡◌, ℕ, ◌+◌, ◌<◌, ◌≤◌, Bool, true, ◌&&◌, List, [], ◌∷◌, ◌++◌, length, drop, get_or, ap, sym, ◌∙◌, Option, Some, None, arith}
+use Rattle.std.proofs.Common.{◌≡◌, ℕ, ◌+◌, ◌<◌, ◌≤◌, Bool, true, ◌&&◌, List, [], ◌∷◌, ◌++◌, length, drop, get_or, refl, ap, sym, ◌∙◌, Option, Some, None, arith}
 use Rattle.std.proofs.lemmas.Bool.{and_from, lt-ltb}
 use Rattle.std.proofs.lemmas.List.{at_drop_more}
 use Rattle.std.proofs.Common.{ℤ, pos, negsuc, w32, FitsSigned, ◌^◌, Vec, Global}
 use Rattle.vx_ast.specs.declared.tree.Expression.{Expression, Call}
+use Rattle.vx_ast.specs.declared.tree.Argument.{Argument}
+use Rattle.vx_ast.specs.declared.tree.Argument.TheVariants.{Number as ANumber, Array as AnArray}
 use Rattle.vx_ast.specs.declared.tree.Statement.{Statement, Block}
-use Rattle.vx_ast.specs.Tree.{Tree, One, Code}
-use Rattle.vx_ast.specs.View.{tree_of, row_in, code_of, all_in}
-use Rattle.vx_limits.specs.Words.{tree_words, code_words}
+use Rattle.vx_ast.specs.Tree.{Tree, One, Row, Code}
+use Rattle.vx_ast.specs.View.{tree_of, argument_before, arguments_in, code_of, all_in}
+use Rattle.vx_limits.specs.Words.{tree_words, argument_words, argument_nodes, code_words}
 use Rattle.vx_limits.proofs.Caps.{capped_one}
 use Rattle.vx_limits.proofs.Views.{call_view, block_view}
 use Rattle.vx_ast.specs.Accepted.{Over, over, or_else, is_word, nodes_of, code_nodes}
@@ -83,12 +85,20 @@ pub word_fits : (z : ℤ) → FitsSigned w32 z → is_word z ≡ true
 word_fits (pos n) f = lt-ltb n (2 ^ 31) f.sfits
 word_fits (negsuc n) f = lt-ltb n (2 ^ 31) f.sfits
 
-pub call_count : (f : ℕ) (all : Vec Expression Global) (row : List Expression) (n out : ℕ) (e : Expression) → e ≡ Call f all → row ≡ all.items → n ≡ capped (nodes_of (row_in row)) → out ≡ capped (1 + n) → out ≡ capped (nodes_of (tree_of e))
-call_count f all row n out e i r q o =
-    o ∙ capped_one n (nodes_of (row_in row)) q ∙ ap (λ (z : List Expression). capped (1 + nodes_of (row_in z))) r ∙ ap (λ (t : Tree One). capped (nodes_of t)) (sym (ap tree_of i ∙ call_view f all))
+pub argument_count : (x : Argument) (rest : Tree Row) → nodes_of (argument_before x rest) ≡ argument_nodes x + nodes_of rest
+argument_count (ANumber e) rest = refl
+argument_count (AnArray a) rest = refl
 
-pub call_words : (f : ℕ) (all : Vec Expression Global) (row : List Expression) (e : Expression) → e ≡ Call f all → row ≡ all.items → tree_words (row_in row) ≡ true → tree_words (tree_of e) ≡ true
-call_words f all row e i r w = ap (λ (t : Tree One). tree_words t) (ap tree_of i ∙ call_view f all) ∙ sym (ap (λ (z : List Expression). tree_words (row_in z)) r) ∙ w
+pub argument_word : (x : Argument) (rest : Tree Row) → tree_words (argument_before x rest) ≡ (argument_words x && tree_words rest)
+argument_word (ANumber e) rest = refl
+argument_word (AnArray a) rest = refl
+
+pub call_count : (f : ℕ) (all : Vec Argument Global) (row : List Argument) (n out : ℕ) (e : Expression) → e ≡ Call f all → row ≡ all.items → n ≡ capped (nodes_of (arguments_in row)) → out ≡ capped (1 + n) → out ≡ capped (nodes_of (tree_of e))
+call_count f all row n out e i r q o =
+    o ∙ capped_one n (nodes_of (arguments_in row)) q ∙ ap (λ (z : List Argument). capped (1 + nodes_of (arguments_in z))) r ∙ ap (λ (t : Tree One). capped (nodes_of t)) (sym (ap tree_of i ∙ call_view f all))
+
+pub call_words : (f : ℕ) (all : Vec Argument Global) (row : List Argument) (e : Expression) → e ≡ Call f all → row ≡ all.items → tree_words (arguments_in row) ≡ true → tree_words (tree_of e) ≡ true
+call_words f all row e i r w = ap (λ (t : Tree One). tree_words t) (ap tree_of i ∙ call_view f all) ∙ sym (ap (λ (z : List Argument). tree_words (arguments_in z)) r) ∙ w
 
 pub block_count : (all : Vec Statement Global) (row : List Statement) (n out : ℕ) (s : Statement) → s ≡ Block all → row ≡ all.items → n ≡ capped (code_nodes (all_in row)) → out ≡ capped (1 + n) → out ≡ capped (code_nodes (code_of s))
 block_count all row n out s i r q o =

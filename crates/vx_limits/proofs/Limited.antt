@@ -48,13 +48,13 @@ declared_formats (ScalarWith x e ∷ is) = declared_formats is
 declared_formats (Array a ∷ is) = declared_formats is
 
 pub limit_is : (gs : List GlobalVariable) (fs : List tree.Function) (m : ℕ) (a b c d e f out : Option Over)
-    → a ≡ over 3 256 (length fs ∷ []) → b ≡ over 4 8 (map (λ (f : tree.Function). f.parameters) fs) → c ≡ over 5 4000 (map function_nodes fs) → d ≡ over 6 8192 (map (λ (f : tree.Function). sum f.arrays) fs)
+    → a ≡ over 3 256 (length fs ∷ []) → b ≡ over 4 8 (map (λ (f : tree.Function). length f.takes) fs) → c ≡ over 5 4000 (map function_nodes fs) → d ≡ over 6 8192 (map (λ (f : tree.Function). sum f.arrays) fs)
     → e ≡ over 7 262144 (sum (map global_words gs) ∷ []) → f ≡ over 8 4096 (flat_map (λ (f : tree.Function). lengths_of (formats_of f.body)) fs)
     → out ≡ or_else a (or_else b (or_else c (or_else d (or_else e f)))) → out ≡ limit_of (record { globals = gs; functions = fs; main = m })
 limit_is gs fs m a b c d e f out p q r s t u o =
     o ∙ ap (λ z. or_else z (or_else b (or_else c (or_else d (or_else e f))))) p
     ∙ ap (λ z. or_else (over 3 256 (length fs ∷ [])) (or_else z (or_else c (or_else d (or_else e f))))) q
-    ∙ ap (λ z. or_else (over 3 256 (length fs ∷ [])) (or_else (over 4 8 (map (λ (f : tree.Function). f.parameters) fs)) (or_else z (or_else d (or_else e f))))) r
-    ∙ ap (λ z. or_else (over 3 256 (length fs ∷ [])) (or_else (over 4 8 (map (λ (f : tree.Function). f.parameters) fs)) (or_else (over 5 4000 (map function_nodes fs)) (or_else z (or_else e f))))) s
-    ∙ ap (λ z. or_else (over 3 256 (length fs ∷ [])) (or_else (over 4 8 (map (λ (f : tree.Function). f.parameters) fs)) (or_else (over 5 4000 (map function_nodes fs)) (or_else (over 6 8192 (map (λ (f : tree.Function). sum f.arrays) fs)) (or_else z f))))) t
-    ∙ ap (λ z. or_else (over 3 256 (length fs ∷ [])) (or_else (over 4 8 (map (λ (f : tree.Function). f.parameters) fs)) (or_else (over 5 4000 (map function_nodes fs)) (or_else (over 6 8192 (map (λ (f : tree.Function). sum f.arrays) fs)) (or_else (over 7 262144 (sum (map global_words gs) ∷ [])) z))))) u
+    ∙ ap (λ z. or_else (over 3 256 (length fs ∷ [])) (or_else (over 4 8 (map (λ (f : tree.Function). length f.takes) fs)) (or_else z (or_else d (or_else e f))))) r
+    ∙ ap (λ z. or_else (over 3 256 (length fs ∷ [])) (or_else (over 4 8 (map (λ (f : tree.Function). length f.takes) fs)) (or_else (over 5 4000 (map function_nodes fs)) (or_else z (or_else e f))))) s
+    ∙ ap (λ z. or_else (over 3 256 (length fs ∷ [])) (or_else (over 4 8 (map (λ (f : tree.Function). length f.takes) fs)) (or_else (over 5 4000 (map function_nodes fs)) (or_else (over 6 8192 (map (λ (f : tree.Function). sum f.arrays) fs)) (or_else z f))))) t
+    ∙ ap (λ z. or_else (over 3 256 (length fs ∷ [])) (or_else (over 4 8 (map (λ (f : tree.Function). length f.takes) fs)) (or_else (over 5 4000 (map function_nodes fs)) (or_else (over 6 8192 (map (λ (f : tree.Function). sum f.arrays) fs)) (or_else (over 7 262144 (sum (map global_words gs) ∷ [])) z))))) u

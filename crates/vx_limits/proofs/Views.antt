@@ -1,15 +1,16 @@
 -- The trees of a call and of a block.
 use Rattle.std.proofs.Common.{◌≡◌, ℕ, refl, ap, rules, Vec, Global}
-use Rattle.vx_ast.specs.declared.tree.Expression.{Expression, Row_of-Expression, end_of-Expression, more_of-Expression, items-the_row-Expression, the_lemmas, Call}
+use Rattle.vx_ast.specs.declared.tree.Expression.{Expression, Row_of-Argument, end_of-Argument, more_of-Argument, items-the_row-Argument, the_lemmas, Call}
+use Rattle.vx_ast.specs.declared.tree.Argument.{Argument}
 use Rattle.vx_ast.specs.declared.tree.Statement.{Statement, Row_of-Statement, end_of-Statement, more_of-Statement, items-the_row-Statement, the_lemmas as tree_statement_lemmas, Block}
 use Rattle.vx_ast.specs.Tree as tree
 use Rattle.vx_ast.specs.View as view
 
-rows_are : (n : _) (k : Row_of-Expression n) → view.row_of k ≡ view.row_in (items-the_row-Expression n k)
-rows_are n end_of-Expression = refl
-rows_are n (more_of-Expression a rest) = ap (tree.Then (view.tree_of a)) (rows_are _ rest)
+rows_are : (n : _) (k : Row_of-Argument n) → view.row_of k ≡ view.arguments_in (items-the_row-Argument n k)
+rows_are n end_of-Argument = refl
+rows_are n (more_of-Argument a rest) = ap (view.argument_before a) (rows_are _ rest)
 
-pub call_view : (f : ℕ) (all : Vec Expression Global) → view.tree_of (Call f all) ≡ tree.Apply f (view.row_in all.items)
+pub call_view : (f : ℕ) (all : Vec Argument Global) → view.tree_of (Call f all) ≡ tree.Apply f (view.arguments_in all.items)
 call_view f all = search (rules, the_lemmas, rows_are)
 
 all_are : (n : _) (k : Row_of-Statement n) → view.all_of k ≡ view.all_in (items-the_row-Statement n k)

@@ -1,10 +1,13 @@
 -- Numbers of 32 bits in a program. The code has no others.
-use Rattle.std.specs.Prelude.{Bool, true, ◌&&◌, Option, Some, None}
+use Rattle.std.specs.Prelude.{ℕ, Bool, true, ◌&&◌, Option, Some, None}
 use Rattle.std.specs.List.{list_all}
 use Rattle.vx_ast.specs.declared.tree.GlobalVariable.{GlobalVariable}
 use Rattle.vx_ast.specs.declared.tree.GlobalVariable.TheVariants.{Scalar as ScalarGlobal, Array as ArrayGlobal}
-use Rattle.vx_ast.specs.Tree.{Shape, One, Tree, Literal, Local, Global, Element, Unary, Binary, Both, Either, Choice, Apply, ReadInt, MoreInput, NoMore, Then, Place, InLocal, InGlobal, InElement, Action, Evaluate, Assign, Compound, Increase, Decrease, Code, Nothing, Seq, Empty, Block, Clear, Declare, ClearArray, Simply, Head, Print, If, IfElse, While, DoWhile, For, Break, Continue, Return, ReturnValue, Function, Program}
-use Rattle.vx_ast.specs.Accepted.{is_word}
+use Rattle.vx_ast.specs.declared.tree.Argument.{Argument}
+use Rattle.vx_ast.specs.declared.tree.Argument.TheVariants.{Number as ANumber, Array as AnArray}
+use Rattle.vx_ast.specs.Tree.{Shape, One, Tree, Literal, Local, Global, Element, Unary, Binary, Both, Either, Choice, Apply, ReadInt, MoreInput, NoMore, Then, Hand, Place, InLocal, InGlobal, InElement, Action, Evaluate, Assign, Compound, Increase, Decrease, Code, Nothing, Seq, Empty, Block, Clear, Declare, ClearArray, Simply, Head, Print, If, IfElse, While, DoWhile, For, Break, Continue, Return, ReturnValue, Function, Program}
+use Rattle.vx_ast.specs.Accepted.{is_word, nodes_of}
+use Rattle.vx_ast.specs.View.{tree_of}
 
 abbrev pub tree_words : {k : Shape} → Tree k → Bool
 tree_words (Literal z) = is_word z
@@ -21,6 +24,16 @@ tree_words ReadInt = true
 tree_words MoreInput = true
 tree_words NoMore = true
 tree_words (Then a rest) = tree_words a && tree_words rest
+tree_words (Hand a rest) = tree_words rest
+
+-- an argument, and how many nodes it has
+abbrev pub argument_words : Argument → Bool
+argument_words (ANumber e) = tree_words (tree_of e)
+argument_words (AnArray a) = true
+
+abbrev pub argument_nodes : Argument → ℕ
+argument_nodes (ANumber e) = nodes_of (tree_of e)
+argument_nodes (AnArray a) = 1
 
 abbrev pub place_words : Place → Bool
 place_words (InLocal x) = true

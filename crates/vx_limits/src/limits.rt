@@ -37,11 +37,12 @@ fn over_functions(functions: &[Function]) -> Option<u64>
 
 // The parameters of the first function with too many.
 fn over_parameters(functions: &[Function]) -> Option<u64>
-    ensures { option_map (over_of 4) result ≡ over 4 8 (map (λ (f : tree.Function). f.parameters) (map function_of functions.now)) }
+    ensures { option_map (over_of 4) result ≡ over 4 8 (map (λ (f : tree.Function). length f.takes) (map function_of functions.now)) }
 {
     for function in functions {
-        if function.parameters > 8 {
-            return Some(u64::from(function.parameters));
+        let count = function.takes.len();
+        if count > 8 {
+            return Some(count as u64);
         }
     }
     None

@@ -3,11 +3,11 @@
 
 ghost use Rattle.std.specs.Prelude.{◌≡◌, ◌+◌, ◌<◌, ◌^◌, true, min, option_map};
 ghost use Rattle.vx_ast.specs.Accepted.{action_nodes, code_nodes, function_nodes, is_word, nodes_of, target_nodes, test_nodes};
-ghost use Rattle.vx_ast.specs.View.{action_of, all_in, code_of, first_of, function_of, item_of, items_of, place_of, row_in, step_of, tree_of};
+ghost use Rattle.vx_ast.specs.View.{action_of, all_in, arguments_in, code_of, first_of, function_of, item_of, items_of, place_of, row_in, step_of, tree_of};
 ghost use Rattle.vx_limits.specs.Capped.{capped};
-ghost use Rattle.vx_limits.specs.Words.{action_words, code_words, function_words, place_words, test_words, tree_words};
+ghost use Rattle.vx_limits.specs.Words.{action_words, argument_nodes, argument_words, code_words, function_words, place_words, test_words, tree_words};
 
-use vx_ast::tree::{Expression, First, Function, Item, Simple, Statement, Target};
+use vx_ast::tree::{Argument, Expression, First, Function, Item, Simple, Statement, Target};
 
 /// A sum, or the greatest `u64` where it is more.
 pub fn sum(left: u64, right: u64) -> u64
@@ -54,20 +54,42 @@ pub fn expression_nodes(expression: &Expression) -> u64
             sum(sum(1, expression_nodes(test)), expression_nodes(left)),
             expression_nodes(right),
         ),
-        Expression::Call(_, row) => sum(1, row_nodes(row.as_slice())),
+        Expression::Call(_, row) => sum(1, arguments_nodes(row.as_slice())),
         Expression::ReadInt => 1,
         Expression::MoreInput => 1,
     }
 }
 
 #[cycle(tree_nodes)]
+fn argument_nodes(argument: &Argument) -> u64
+    ensures nodes { result ≡ capped (argument_nodes argument.now) }
+    ensures words { argument_words argument.now ≡ true }
+{
+    match argument {
+        Argument::Number(number) => expression_nodes(number),
+        Argument::Array(_) => 1,
+    }
+}
+
+#[cycle(tree_nodes)]
+fn arguments_nodes(row: &[Argument]) -> u64
+    ensures nodes { result ≡ capped (nodes_of (arguments_in row.now)) }
+    ensures words { tree_words (arguments_in row.now) ≡ true }
+{
+    let mut count = 0;
+    for argument in row {
+        count = sum(count, argument_nodes(argument));
+    }
+    count
+}
+
 fn row_nodes(row: &[Expression]) -> u64
     ensures nodes { result ≡ capped (nodes_of (row_in row.now)) }
     ensures words { tree_words (row_in row.now) ≡ true }
 {
     let mut count = 0;
-    for argument in row {
-        count = sum(count, expression_nodes(argument));
+    for number in row {
+        count = sum(count, expression_nodes(number));
     }
     count
 }
@@ -209,7 +231,7 @@ pub fn counted_nodes(function: &Function) -> u64
     ensures words { function_words (function_of function.now) ≡ true }
 {
     sum(
-        1 + u64::from(function.parameters),
+        1 + function.takes.len() as u64,
         list_nodes(function.body.as_slice()),
     )
 }

@@ -1,18 +1,21 @@
--- Steps of the interpreter's loops: a row of arguments, statements one after the other, the turns of each kind of loop.
-use Rattle.std.proofs.Common.{◌≡◌, ◌<◌, ◌+◌, ◌-◌, ℕ, zero, suc, ℤ, List, [], ◌∷◌, ◌++◌, length, drop, get_or, Option, Some, None, Result, Ok, Err, refl, sym, ◌∙◌, ap, subst, arith, w32, of_z}
+-- Steps of the interpreter's loops: rows of numbers and of arguments, statements one after the other, the turns of each kind of loop.
+use Rattle.std.proofs.Common.{◌≡◌, ◌<◌, ◌+◌, ◌-◌, ℕ, suc, ℤ, List, [], ◌∷◌, ◌++◌, length, drop, get_or, Some, None, Result, Ok, Err, refl, sym, ◌∙◌, ap, subst, arith, append-nil, w32, of_z}
 use Rattle.std.specs.Prelude.{IsErrAnd}
 use Rattle.std.proofs.Math.Seq.{drop-cons}
-use Rattle.vx_ast.specs.Meaning.{Store, Part, With, Trapped, Going, Leaves, Falls, Calls, Argument, NumberArgument, and_then, unless_zero, value, go_on, after_body, after_turn, tests, turns, turns_first}
+use Rattle.vx_ast.specs.Meaning.{Store, Part, With, Trapped, Going, Leaves, Falls, Calls, Argument, NumberArgument, ArrayArgument, numbers_given, arrays_given, and_then, value, go_on, after_body, after_turn, tests, turns, turns_first}
 use Rattle.vx_plain.specs.Kept.{Kept, store_of}
-use Rattle.vx_plain.specs.Interpreting.{IsAnswered, Comes, itself, falls, leaves_of, IsAfterTurn, IsAfterBody}
-use Rattle.vx_ast.specs.View.{tree_of, row_in}
+use Rattle.vx_plain.specs.Interpreting.{IsAnswered, Comes, AreGiven, Passes, itself, leaves_of, IsAfterTurn, IsAfterBody}
+use Rattle.vx_ast.specs.View.{tree_of, arguments_in, row_in}
 use Rattle.vx_ast.specs.declared.tree.Expression.{Expression}
+use Rattle.vx_ast.specs.declared.tree.Argument.{Argument as TreeArgument}
+use Rattle.vx_ast.specs.declared.tree.Argument.TheVariants.{Number as ANumber, Array as AnArray}
+use Rattle.vx_plain.specs.declared.interpreter.Arguments.{Arguments}
 use Rattle.vx_plain.specs.declared.interpreter.Stop.{Stop}
 use Rattle.vx_plain.specs.declared.interpreter.Stop.TheVariants.{Trap as StopTrap, Bound as StopBound, Memory as StopMemory}
 use Rattle.vx_plain.specs.declared.interpreter.Leave.{Leave}
-use Rattle.vx_plain.proofs.InterpreterSteps.{stop_then, through, more_values}
+use Rattle.vx_plain.proofs.InterpreterSteps.{stop_then, through, passes_stop, numbers_more, numbers_same, arrays_more, arrays_same, more_values}
 
--- rows of arguments
+-- rows of numbers
 
 module _ (spot : ℕ → ℕ) (calls : Calls) (row : List Expression) (i : ℕ) (numbers : List Argument) (start s : Store) (x : Expression)
     (so_far : value spot calls (row_in row) start ≡ and_then (value spot calls (row_in (drop i row)) s) (λ xs t. With (numbers ++ xs) t)) (more : i < length row) (item : x ≡ get_or row i x) where
@@ -31,6 +34,67 @@ module _ (spot : ℕ → ℕ) (calls : Calls) (row : List Expression) (i : ℕ) 
       so_far ∙ ap (λ l. and_then (value spot calls (row_in l) s) (λ xs t. With (numbers ++ xs) t)) cut
       ∙ ap (λ p. and_then (and_then p (λ y t. and_then (value spot calls (row_in (drop (i + 1) row)) t) (λ xs u. With (NumberArgument y ∷ xs) u))) (λ xs t. With (numbers ++ xs) t)) e
       ∙ more_values (value spot calls (row_in (drop (i + 1) row)) t) numbers (NumberArgument v)
+
+-- rows of arguments that are numbers and arrays
+
+-- what the arguments so far give, and then those of the rest, is what the row gives
+pub record SoFar (spot : ℕ → ℕ) (calls : Calls) (row : List TreeArgument) (i : ℕ) (zs : List ℤ) (ks : List ℕ) (start s : Store) : Type 0 where
+  pub done : List Argument
+  pub is : value spot calls (arguments_in row) start ≡ and_then (value spot calls (arguments_in (drop i row)) s) (λ xs t. With (done ++ xs) t)
+  pub numbers : numbers_given done ≡ zs
+  pub arrays : arrays_given done ≡ ks
+
+then_none : (p : Part (List Argument)) → p ≡ and_then p (λ xs t. With ([] ++ xs) t)
+then_none (With xs s) = refl
+then_none (Trapped k out) = refl
+then_none (Going out) = refl
+
+pub so_far_begin : (spot : ℕ → ℕ) (calls : Calls) (row : List TreeArgument) (zs : List ℤ) (ks : List ℕ) (s : Store) → zs ≡ [] → ks ≡ [] → SoFar spot calls row 0 zs ks s s
+so_far_begin spot calls row zs ks s e f = record { done = []; is = then_none (value spot calls (arguments_in row) s); numbers = sym e; arrays = sym f }
+
+pub so_far_end : (spot : ℕ → ℕ) (calls : Calls) (row : List TreeArgument) (i : ℕ) (a : Arguments) (start : Store) (k : Kept) → SoFar spot calls row i a.numbers.items a.arrays.items start (store_of k) → drop i row ≡ []
+    → AreGiven a k (value spot calls (arguments_in row) start)
+so_far_end spot calls row i a start k f e = record {
+  all = f.done;
+  is = f.is ∙ ap (λ l. and_then (value spot calls (arguments_in l) (store_of k)) (λ xs t. With (f.done ++ xs) t)) e ∙ ap (λ l. With l (store_of k)) (append-nil f.done);
+  numbers = f.numbers;
+  arrays = f.arrays;
+}
+
+module _ (spot : ℕ → ℕ) (calls : Calls) (row : List TreeArgument) (i : ℕ) (zs : List ℤ) (ks : List ℕ) (start s : Store) (x : TreeArgument) (f : SoFar spot calls row i zs ks start s) (more : i < length row) (item : x ≡ get_or row i x) where
+  cut_at : (y : TreeArgument) → x ≡ y → drop i row ≡ y ∷ drop (i + 1) row
+  cut_at y e = let q : i + 1 ≡ suc i = omega arith in rw q (drop-cons row i x more ∙ ap (λ z. z ∷ drop (suc i) row) (sym item ∙ e))
+
+  abbrev left : Store → Part (List Argument)
+  left t = value spot calls (arguments_in (drop (i + 1) row)) t
+
+  is_number : (e : Expression) → x ≡ ANumber e → value spot calls (arguments_in row) start ≡ and_then (and_then (value spot calls (tree_of e) s) (λ y t. and_then (left t) (λ xs u. With (NumberArgument y ∷ xs) u))) (λ xs t. With (f.done ++ xs) t)
+  is_number e q = f.is ∙ ap (λ l. and_then (value spot calls (arguments_in l) s) (λ xs t. With (f.done ++ xs) t)) (cut_at (ANumber e) q)
+
+  pub number_stop : (e : Expression) → x ≡ ANumber e → (r : Result Arguments Stop) (err : Stop) (k : Kept) → IsErrAnd r (λ y. y ≡ err) → Comes itself (Err err) k (value spot calls (tree_of e) s) → Passes r k (value spot calls (arguments_in row) start)
+  number_stop e q r err k h c =
+      let inside : ℤ → Store → Part (List Argument) = λ y t. and_then (left t) (λ xs u. With (NumberArgument y ∷ xs) u) in
+      let inner : Comes {A = List Argument} {B = ℤ} (λ z. []) (Err err) k (and_then (value spot calls (tree_of e) s) inside) = stop_then itself (λ z. []) (Err err) err k (value spot calls (tree_of e) s) inside refl c in
+      let outer : Comes {A = List Argument} {B = ℤ} (λ z. []) (Err err) k (and_then (and_then (value spot calls (tree_of e) s) inside) (λ xs t. With (f.done ++ xs) t)) =
+      stop_then (λ z. []) (λ z. []) (Err err) err k (and_then (value spot calls (tree_of e) s) inside) (λ xs t. With (f.done ++ xs) t) refl inner
+      in
+      subst (Passes r k) (sym (is_number e q)) (passes_stop {C = ℤ} (λ z. []) r err k (and_then (and_then (value spot calls (tree_of e) s) inside) (λ xs t. With (f.done ++ xs) t)) h outer)
+
+  pub number_more : (e : Expression) → x ≡ ANumber e → (v : ℤ) (t : Store) (all : List ℤ) → value spot calls (tree_of e) s ≡ With v t → all ≡ zs ++ v ∷ [] → SoFar spot calls row (i + 1) all ks start t
+  number_more e q v t all g m = record {
+    done = f.done ++ NumberArgument v ∷ [];
+    is = is_number e q ∙ ap (λ p. and_then (and_then p (λ y t. and_then (left t) (λ xs u. With (NumberArgument y ∷ xs) u))) (λ xs t. With (f.done ++ xs) t)) g ∙ more_values (left t) f.done (NumberArgument v);
+    numbers = numbers_more f.done v ∙ ap (λ l. l ++ v ∷ []) f.numbers ∙ sym m;
+    arrays = arrays_same f.done v ∙ f.arrays;
+  }
+
+  pub array_more : (a spot_of_a : ℕ) → x ≡ AnArray a → spot_of_a ≡ spot a → (all : List ℕ) → all ≡ ks ++ spot_of_a ∷ [] → SoFar spot calls row (i + 1) zs all start s
+  array_more a b q e all m = record {
+    done = f.done ++ ArrayArgument (spot a) ∷ [];
+    is = f.is ∙ ap (λ l. and_then (value spot calls (arguments_in l) s) (λ xs t. With (f.done ++ xs) t)) (cut_at (AnArray a) q) ∙ more_values (left s) f.done (ArrayArgument (spot a));
+    numbers = numbers_same f.done (spot a) ∙ f.numbers;
+    arrays = arrays_more f.done (spot a) ∙ ap (λ l. l ++ spot a ∷ []) f.arrays ∙ ap (λ z. ks ++ z ∷ []) (sym e) ∙ sym m;
+  }
 
 -- a statement that falls
 

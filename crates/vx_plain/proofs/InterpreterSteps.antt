@@ -1,26 +1,27 @@
 -- Steps of the interpreter: what it answers for a part comes to what it answers for the whole.
-use Rattle.std.proofs.Common.{rules, Vec, Global, ◌≤◌, ◌-◌, ◌⊎◌, inl, inr, take, ◌≡◌, ℕ, zero, suc, ◌+◌, ◌<◌, ℤ, pos, negsuc, List, [], ◌∷◌, ◌++◌, length, drop, get_or, map, Option, Some, None, Result, Ok, Err, refl, sym, ◌∙◌, ap, subst, arith, append_assoc, append-nil, w32, of_z, to_z, FitsSigned, slice_get, slice_index_or, replicate}
+use Rattle.std.proofs.Common.{rules, Vec, Global, ◌≤◌, ◌-◌, ◌⊎◌, inl, inr, take, ◌≡◌, ℕ, zero, suc, ◌+◌, ◌<◌, ℤ, pos, negsuc, List, [], ◌∷◌, ◌++◌, length, map, Option, Some, None, Result, Ok, Err, refl, sym, ◌∙◌, ap, subst, arith, append_assoc, w32, of_z, to_z, FitsSigned, slice_get, slice_index_or, replicate}
 use Rattle.std.specs.Prelude.{IsErrAnd}
 use Rattle.std.specs.Option.{option_map}
 use Rattle.std.proofs.lemmas.Bool.{cases_lt}
 use Rattle.std.proofs.lemmas.Option.{slice_get-map}
-use Rattle.std.proofs.Math.Seq.{drop-cons}
 use Rattle.std.proofs.lemmas.Int.{to_z-of_z}
-use Rattle.vx_base.specs.Outcome.{Outcome, Traps, Goes}
+use Rattle.vx_base.specs.Outcome.{Traps, Goes}
 use Rattle.vx_base.specs.declared.outcome.Trap.{Trap}
 use Rattle.vx_base.specs.declared.outcome.Trap.TheVariants.{Index as ByIndex}
 use Rattle.vx_ast.specs.Tree as tree
 use Rattle.vx_ast.specs.Tree.{One, Row, Tree, Apply, NoMore, Then, Code, Seq, Place, InLocal, InGlobal, InElement}
-use Rattle.vx_ast.specs.Meaning.{Store, Part, With, Trapped, Going, Leaves, Falls, Calls, Argument, NumberArgument, numbers_given, arrays_given, and_then, unless_zero, at_index, at_element, index_in, array_at, word_at, with_word, with_scalar, value, changes, does, spot_behind, spot_in, active, activate, result_of, back_in, entered, outcome_of}
+use Rattle.vx_ast.specs.Meaning.{Store, Part, With, Trapped, Going, Leaves, Falls, Calls, Argument, NumberArgument, ArrayArgument, numbers_given, arrays_given, and_then, unless_zero, at_index, at_element, index_in, array_at, word_at, with_word, value, changes, does, spot_behind, spot_in, active, activate, result_of, back_in, entered, outcome_of}
 use Rattle.vx_plain.specs.Kept.{Kept, store_of}
-use Rattle.vx_plain.specs.Interpreting.{IsAnswered, Comes, itself, falls, leaves_of, given, held_at, put_at, located}
+use Rattle.vx_plain.specs.Interpreting.{IsAnswered, Comes, Passes, itself, leaves_of, given, held_at, put_at, located}
+use Rattle.vx_plain.specs.declared.interpreter.Arguments.{Arguments}
 use Rattle.vx_plain.specs.declared.interpreter.Stop.{Stop}
 use Rattle.vx_plain.specs.declared.interpreter.Stop.TheVariants.{Trap as StopTrap, Bound as StopBound, Memory as StopMemory}
 use Rattle.vx_plain.specs.declared.interpreter.Located.{Located}
-use Rattle.vx_plain.specs.declared.interpreter.Located.TheVariants.{Scalar as AtScalar, Word as AtWord}
-use Rattle.vx_ast.specs.declared.tree.Expression.{Expression, Row_of-Expression, end_of-Expression, more_of-Expression, items-the_row-Expression, the_lemmas, Call}
+use Rattle.vx_plain.specs.declared.interpreter.Located.TheVariants.{Word as AtWord}
+use Rattle.vx_ast.specs.declared.tree.Expression.{Expression, Row_of-Argument, end_of-Argument, more_of-Argument, items-the_row-Argument, the_lemmas, Call}
+use Rattle.vx_ast.specs.declared.tree.Argument.{Argument as TreeArgument}
 use Rattle.vx_ast.specs.declared.tree.Statement.{Statement, Row_of-Statement, end_of-Statement, more_of-Statement, items-the_row-Statement, the_lemmas as statement_lemmas, Block, Print}
-use Rattle.vx_ast.specs.View.{tree_of, row_of, row_in, code_of, all_of, all_in, function_of, program_of}
+use Rattle.vx_ast.specs.View.{tree_of, argument_before, row_of, arguments_in, row_in, code_of, all_of, all_in, function_of, program_of}
 use Rattle.vx_ast.specs.declared.tree.Function.{Function}
 use Rattle.vx_ast.specs.declared.tree.Program.{Program}
 use Rattle.vx_plain.specs.declared.interpreter.Leave.{Leave}
@@ -98,11 +99,11 @@ is_own (spot ∷ rest) base (suc k) h = let e : suc k - suc (length rest) ≡ k 
 
 -- rows of arguments
 
-rows_are : (n : _) (k : Row_of-Expression n) → row_of k ≡ row_in (items-the_row-Expression n k)
-rows_are n end_of-Expression = refl
-rows_are n (more_of-Expression a rest) = ap (Then (tree_of a)) (rows_are _ rest)
+rows_are : (n : _) (k : Row_of-Argument n) → row_of k ≡ arguments_in (items-the_row-Argument n k)
+rows_are n end_of-Argument = refl
+rows_are n (more_of-Argument a rest) = ap (argument_before a) (rows_are _ rest)
 
-pub view_Call : (f : ℕ) (all : Vec Expression Global) → tree_of (Call f all) ≡ Apply f (row_in all.items)
+pub view_Call : (f : ℕ) (all : Vec TreeArgument Global) → tree_of (Call f all) ≡ Apply f (arguments_in all.items)
 view_Call f all = search (rules, the_lemmas, rows_are)
 
 all_are : (n : _) (k : Row_of-Statement n) → all_of k ≡ all_in (items-the_row-Statement n k)
@@ -113,9 +114,35 @@ pub view_Block : (all : Vec Statement Global) → code_of (Block all) ≡ tree.B
 view_Block all = search (rules, statement_lemmas, all_are)
 
 pub view_Print : (format : List ℕ) (all : Vec Expression Global) → code_of (Print format all) ≡ tree.Print format (row_in all.items)
-view_Print format all = search (rules, statement_lemmas, rows_are)
+view_Print format all = search (rules, statement_lemmas)
+
+-- what is given to a function, where a part is left before it is done
+
+pub passes_stop : {C : Type 0} (f : C → List Argument) (r : Result Arguments Stop) (e : Stop) (k : Kept) (p : Part (List Argument)) → IsErrAnd r (λ y. y ≡ e) → Comes f (Err e) k p → Passes r k p
+passes_stop f (Ok a) e k p h c = absurd h
+passes_stop f (Err y) e k p h c = stop_as f (λ a. []) (Err y) e k p h c
 
 -- one more argument
+
+pub numbers_more : (xs : List Argument) (z : ℤ) → numbers_given (xs ++ NumberArgument z ∷ []) ≡ numbers_given xs ++ z ∷ []
+numbers_more [] z = refl
+numbers_more (NumberArgument y ∷ xs) z = ap (λ l. y ∷ l) (numbers_more xs z)
+numbers_more (ArrayArgument k ∷ xs) z = numbers_more xs z
+
+pub numbers_same : (xs : List Argument) (a : ℕ) → numbers_given (xs ++ ArrayArgument a ∷ []) ≡ numbers_given xs
+numbers_same [] a = refl
+numbers_same (NumberArgument y ∷ xs) a = ap (λ l. y ∷ l) (numbers_same xs a)
+numbers_same (ArrayArgument k ∷ xs) a = numbers_same xs a
+
+pub arrays_more : (xs : List Argument) (a : ℕ) → arrays_given (xs ++ ArrayArgument a ∷ []) ≡ arrays_given xs ++ a ∷ []
+arrays_more [] a = refl
+arrays_more (NumberArgument y ∷ xs) a = arrays_more xs a
+arrays_more (ArrayArgument k ∷ xs) a = ap (λ l. k ∷ l) (arrays_more xs a)
+
+pub arrays_same : (xs : List Argument) (z : ℤ) → arrays_given (xs ++ NumberArgument z ∷ []) ≡ arrays_given xs
+arrays_same [] z = refl
+arrays_same (NumberArgument y ∷ xs) z = arrays_same xs z
+arrays_same (ArrayArgument k ∷ xs) z = ap (λ l. k ∷ l) (arrays_same xs z)
 
 pub one_more : (zs : List ℤ) (z : ℤ) → map NumberArgument (zs ++ z ∷ []) ≡ map NumberArgument zs ++ NumberArgument z ∷ []
 one_more [] z = refl

@@ -1,13 +1,13 @@
 -- Steps of the interpreter's store: scalars that are written, arrays that are cleared, formats that are printed.
-use Rattle.std.proofs.Common.{◌≡◌, ◌<◌, ◌≤◌, ◌+◌, ◌-◌, ◌==◌, ℕ, zero, suc, ℤ, pos, Bool, true, false, List, [], ◌∷◌, ◌++◌, length, map, take, drop, replicate, slice_index_or, get_or, refl, sym, ◌∙◌, ap, subst, arith, append_assoc, append-nil, nat_lt, lt-ltb, le-ltb, ◌⊎◌, inl, inr}
+use Rattle.std.proofs.Common.{◌≡◌, ◌<◌, ◌≤◌, ◌+◌, ◌==◌, ℕ, zero, suc, ℤ, pos, Bool, true, false, List, [], ◌∷◌, ◌++◌, length, map, take, drop, replicate, slice_index_or, get_or, refl, sym, ◌∙◌, ap, subst, arith, append_assoc, nat_lt, lt-ltb, le-ltb, ◌⊎◌, inl, inr}
 use Rattle.std.specs.Prelude.{if◌then◌else◌, slice_set}
 use Rattle.std.proofs.Math.Seq.{drop-cons}
-use Rattle.std.proofs.lemmas.Bool.{cases_lt, eqb-true}
+use Rattle.std.proofs.lemmas.Bool.{cases_lt}
 use Rattle.std.proofs.lemmas.Bool.Decides.{eqb_tells}
 use Rattle.std.proofs.lemmas.List.{get_or-set_same, get_or-set_other, take_all, drop_all}
 use Rattle.std.proofs.lemmas.Simd.{splat_is_map}
 use Rattle.std.specs.Fmt.{signed_decimal}
-use Rattle.vx_ast.specs.Meaning.{Store, with_scalar, is_left, Piece, AByte, ANumber, pieces_of, directive_of, printed}
+use Rattle.vx_ast.specs.Meaning.{with_scalar, is_left, Piece, pieces_of, directive_of, printed}
 use Rattle.vx_plain.specs.Kept.{Kept, scalars_of, store_of}
 
 -- zeros behind the scalars change none

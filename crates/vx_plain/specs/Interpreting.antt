@@ -1,14 +1,15 @@
 -- What the interpreter's answers say of the meaning of a source.
-use Rattle.std.specs.Prelude.{◌≡◌, ℕ, ℤ, pos, List, length, Result, Ok, Err, Option, Some, None}
+use Rattle.std.specs.Prelude.{◌≡◌, ℕ, ℤ, pos, List, [], length, Result, Ok, Err, Option, Some, None}
 use Rattle.vx_base.specs.Outcome.{Outcome, Ends, Traps, Goes}
 use Rattle.vx_ast.specs.Tree.{Place, InLocal, InGlobal, InElement}
-use Rattle.vx_ast.specs.Meaning.{Store, and_then, after_body, after_turn, at_element, value, word_at, with_scalar, with_word, Part, With, Trapped, Going, Leaves, Falls, Breaks, Continues, Returns, Calls, spot_in, active}
+use Rattle.vx_ast.specs.Meaning.{Store, and_then, after_body, after_turn, at_element, value, word_at, with_scalar, with_word, Part, With, Trapped, Going, Leaves, Falls, Breaks, Continues, Returns, Calls, Argument, numbers_given, arrays_given, spot_in, active}
 use Rattle.vx_plain.specs.Kept.{Kept, store_of}
 use Rattle.vx_ast.specs.View.{program_of}
 use Rattle.vx_ast.specs.declared.tree.Program.{Program}
 use Rattle.vx_plain.specs.declared.interpreter.End.{End}
 use Rattle.vx_plain.specs.declared.interpreter.End.TheVariants.{Result as WithResult, Trap as ByTrap, Bound as AtBound}
 use Rattle.vx_plain.specs.declared.interpreter.Ending.{Ending}
+use Rattle.vx_plain.specs.declared.interpreter.Arguments.{Arguments}
 use Rattle.vx_plain.specs.declared.interpreter.Stop.{Stop}
 use Rattle.vx_plain.specs.declared.interpreter.Stop.TheVariants.{Trap as StopTrap, Bound as StopBound, Memory as StopMemory}
 use Rattle.vx_plain.specs.declared.interpreter.Leave.{Leave}
@@ -48,6 +49,17 @@ IsAnswered f (Err StopMemory) k p = Unit {0}
 
 pub record Comes {A B : Type 0} (f : B → A) (r : Result B Stop) (k : Kept) (p : Part A) : Type 0 where
   pub is : IsAnswered f r k p
+
+-- what was given to a function is what a row of arguments comes to
+pub record AreGiven (a : Arguments) (k : Kept) (p : Part (List Argument)) : Type 0 where
+  pub all : List Argument
+  pub is : p ≡ With all (store_of k)
+  pub numbers : numbers_given all ≡ a.numbers.items
+  pub arrays : arrays_given all ≡ a.arrays.items
+
+abbrev pub Passes : Result Arguments Stop → Kept → Part (List Argument) → Type 0
+Passes (Ok a) k p = AreGiven a k p
+Passes (Err e) k p = Comes {B = Arguments} (λ a. []) (Err e) k p
 
 abbrev pub itself : {A : Type 0} → A → A
 itself a = a

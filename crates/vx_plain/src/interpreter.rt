@@ -3,20 +3,21 @@
 
 ghost use Rattle.std.specs.Prelude.{◌≡◌, ◌+◌, ℕ, pos, List, [], Some, None, length, map, IfOk, MatchResult};
 ghost use Rattle.std.specs.Option.{option_map};
-ghost use Rattle.vx_plain.specs.Interpreting.{Comes, IsAfterBody, IsAfterTurn, calls_at, falls, given, held_at, itself, leaves_of, located, outcome_at, outcome_in, put_at, spot_at};
+ghost use Rattle.vx_plain.specs.Interpreting.{Comes, IsAfterBody, IsAfterTurn, Passes, calls_at, falls, given, held_at, itself, leaves_of, located, outcome_at, outcome_in, put_at, spot_at};
 ghost use Rattle.vx_plain.specs.Kept.{store_of};
-ghost use Rattle.vx_ast.specs.Meaning.{Argument, Falls, NumberArgument, With, active, acts, after_body, array_at, arrays_given, binary_value, combined, deepest, does, index_in, next_input, numbers_given, outcome_of, source, test_of, turns, turns_first, unary_value, unless_zero, value};
-ghost use Rattle.vx_ast.specs.View.{action_of, all_in, code_of, first_of, item_of, items_of, place_of, program_of, row_in, step_of, tree_of};
+ghost use Rattle.vx_ast.specs.Meaning as meaning;
+ghost use Rattle.vx_ast.specs.Meaning.{Falls, NumberArgument, With, active, acts, after_body, array_at, arrays_given, combined, deepest, does, index_in, next_input, numbers_given, outcome_of, source, test_of, turns, turns_first, value};
+ghost use Rattle.vx_ast.specs.View.{action_of, all_in, arguments_in, code_of, first_of, item_of, items_of, place_of, program_of, row_in, step_of, tree_of};
 ghost use Rattle.vx_base.specs.declared.outcome.Trap.TheVariants.{Index as ByIndex};
 
 use crate::active::{Active, spot};
+use crate::operators::{binary, truth, unary};
 use crate::store::Memory;
 use std::alloc::{AllocFailed, Global};
-use vx_arithmetic::{add32, cmp32, div32, mul32, rem32, shl32, shr32, sub32, value};
+use vx_arithmetic::{add32, sub32};
 use vx_ast::tree::{
-    BinaryOperator, Expression, First, Item, Program, Simple, Statement, Target, UnaryOperator,
+    Argument, BinaryOperator, Expression, First, Item, Program, Simple, Statement, Target,
 };
-use vx_base::arithmetic::{Code, Compare};
 use vx_base::listed::{Bytes, Listed};
 use vx_base::outcome::{NoMemory, Trap};
 
@@ -101,6 +102,15 @@ enum Located {
     Word(usize, usize),
 }
 
+/// What is given to a function.
+#[derive(Drop)]
+struct Arguments {
+    /// The numbers.
+    numbers: Vec<i32>,
+    /// Where the arrays stand.
+    arrays: Vec<usize>,
+}
+
 /// The room inside a construct.
 fn deeper(room: u32) -> Result<u32, Stop>
     ensures { MatchResult result (λ inner. inner + 1 ≡ room) (λ e. e ≡ Stop.Memory) }
@@ -119,42 +129,6 @@ fn inside(store: &Memory, a: usize, index: i32) -> Result<usize, Stop>
         return Err(Stop::Trap(Trap::Index));
     }
     Ok(index as usize)
-}
-
-/// The value of an operator with one operand.
-fn unary(operator: UnaryOperator, x: i32) -> i32
-    ensures { result ≡ unary_value operator x }
-{
-    match operator {
-        UnaryOperator::Minus => sub32(0, x),
-        UnaryOperator::Plus => x,
-        UnaryOperator::Not => i32::from(cmp32(Compare::Eq, x, 0)),
-        UnaryOperator::Complement => value(Code::Xor, x, -1),
-    }
-}
-
-/// The value of an operator with two operands; of a division by 0 it is 0.
-fn binary(operator: BinaryOperator, x: i32, y: i32) -> i32
-    ensures { result ≡ binary_value operator x y }
-{
-    match operator {
-        BinaryOperator::Multiply => mul32(x, y),
-        BinaryOperator::Divide => div32(x, y),
-        BinaryOperator::Remainder => rem32(x, y),
-        BinaryOperator::Add => add32(x, y),
-        BinaryOperator::Subtract => sub32(x, y),
-        BinaryOperator::ShiftLeft => shl32(x, y),
-        BinaryOperator::ShiftRight => shr32(x, y),
-        BinaryOperator::Less => i32::from(cmp32(Compare::Lt, x, y)),
-        BinaryOperator::LessEqual => i32::from(cmp32(Compare::Le, x, y)),
-        BinaryOperator::Greater => i32::from(cmp32(Compare::Gt, x, y)),
-        BinaryOperator::GreaterEqual => i32::from(cmp32(Compare::Ge, x, y)),
-        BinaryOperator::Equal => i32::from(cmp32(Compare::Eq, x, y)),
-        BinaryOperator::NotEqual => i32::from(cmp32(Compare::Ne, x, y)),
-        BinaryOperator::BitAnd => value(Code::And, x, y),
-        BinaryOperator::BitXor => value(Code::Xor, x, y),
-        BinaryOperator::BitOr => value(Code::Or, x, y),
-    }
 }
 
 /// The value of an operator with two operands, or the trap of a division by 0.
@@ -180,13 +154,6 @@ fn read(store: &mut Memory) -> Result<i32, Stop>
         Some(x) => Ok(x),
         None => Err(Stop::Trap(Trap::Input)),
     }
-}
-
-/// 1 where a number is not 0, else 0.
-fn truth(x: i32) -> i32
-    ensures { result ≡ unless_zero x (pos 1) (pos 0) }
-{
-    if x == 0 { 0 } else { 1 }
 }
 
 /// What a place holds.
@@ -314,15 +281,53 @@ fn evaluate(
             }
         }
         Expression::Call(f, row) => {
-            let arguments = evaluate_row(alloc, program, at, inner, store, row.as_slice())?;
-            call(alloc, program, at, inner, store, *f, arguments, &[])
+            let given = evaluate_arguments(alloc, program, at, inner, store, row.as_slice())?;
+            call(
+                alloc,
+                program,
+                at,
+                inner,
+                store,
+                *f,
+                given.numbers,
+                given.arrays.as_slice(),
+            )
         }
         Expression::ReadInt => read(store),
         Expression::MoreInput => Ok(i32::from(store.has_more())),
     }
 }
 
-/// The values of a row of arguments, from left to right.
+/// What a row of arguments gives, from left to right.
+#[cycle(running)]
+fn evaluate_arguments(
+    alloc: Global,
+    program: &Program,
+    at: &Active,
+    room: u32,
+    store: &mut Memory,
+    row: &[Argument],
+) -> Result<Arguments, Stop>
+    ensures { Passes result store.new (value (spot_at program.now at.now) (calls_at program.now at.now) (arguments_in row.now) (store_of store.old)) }
+{
+    let inner = deeper(room)?;
+    let mut numbers = Vec::new(alloc);
+    let mut arrays = Vec::new(alloc);
+    for argument in row {
+        match argument {
+            Argument::Number(e) => {
+                let x = evaluate(alloc, program, at, inner, store, e)?;
+                numbers.push(x)?;
+            }
+            Argument::Array(a) => {
+                arrays.push(spot(program, at, *a))?;
+            }
+        }
+    }
+    Ok(Arguments { numbers, arrays })
+}
+
+/// The values of a row of numbers, from left to right.
 #[cycle(running)]
 fn evaluate_row(
     alloc: Global,
@@ -355,7 +360,7 @@ fn call(
     numbers: Vec<i32>,
     given: &[usize],
 ) -> Result<i32, Stop>
-    ensures { (arguments : List Argument) → numbers_given arguments ≡ numbers.items → arrays_given arguments ≡ given.now → Comes itself result store.new (calls_at program.now at.now f arguments (store_of store.old)) }
+    ensures { (arguments : List meaning.Argument) → numbers_given arguments ≡ numbers.items → arrays_given arguments ≡ given.now → Comes itself result store.new (calls_at program.now at.now f arguments (store_of store.old)) }
 {
     let inner = deeper(room)?;
     if at.depth == 0 {

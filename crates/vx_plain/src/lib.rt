@@ -4,4 +4,5 @@
 
 mod active;
 pub mod interpreter;
+mod operators;
 mod store;

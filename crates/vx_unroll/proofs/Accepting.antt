@@ -1,11 +1,11 @@
 -- The unrolled program is accepted where the program was.
-use Rattle.std.proofs.Common.{◌≡◌, ℕ, zero, suc, ◌-◌, ◌≤◌, ◌<◌, Bool, true, false, ◌&&◌, nat_lt, List, [], ◌∷◌, length, map, Option, Some, None, slice_get, refl, sym, ap, ◌∙◌, arith, ltb-true, lt-ltb}
-use Rattle.std.specs.Prelude.{if◌then◌else◌}
+use Rattle.std.proofs.Common.{◌≡◌, ℕ, zero, suc, ◌+◌, ◌-◌, ◌≤◌, ◌<◌, Bool, true, false, ◌&&◌, nat_lt, List, [], ◌∷◌, length, map, Option, Some, None, slice_get, refl, sym, ap, ◌∙◌, arith, ltb-true, lt-ltb}
+use Rattle.std.specs.Prelude.{if◌then◌else◌, nat_eq}
 use Rattle.std.specs.List.{list_all, flat_map, sum}
 use Rattle.std.proofs.lemmas.Bool.{and_parts, and_from}
 use Rattle.std.proofs.lemmas.List.Folds.{list_all-append, list_all-map}
 use Rattle.vx_ast.specs.Tree.{Code, Function, Program}
-use Rattle.vx_ast.specs.Accepted.{Over, at_most, suits_code, suits_function, suits_global, in_force_at_start, is_main, scalars_of, arrays_of, formats_of, are_all_from, function_nodes, global_words, over, or_else, limit_of, is_none, is_suited, is_accepted}
+use Rattle.vx_ast.specs.Accepted.{Over, at_most, numbers_taken, arrays_taken, suits_code, suits_function, suits_global, in_force_at_start, is_main, scalars_of, arrays_of, formats_of, are_all_from, function_nodes, global_words, over, or_else, limit_of, is_none, is_suited, is_accepted}
 use Rattle.vx_unroll.specs.Unrolling.{unrolled_function, unrolled_program}
 use Rattle.vx_unroll.specs.Laws.{Unrolls, AllUnroll, NoneLeft, AndMore, UnrolledIsAccepted, NamesStay}
 use Rattle.vx_unroll.proofs.Unrolled.{all_unroll}
@@ -86,7 +86,7 @@ limits_kept k p e =
     let gs : List Function = map (unrolled_function k (length p.globals)) fs in
     let all : AllUnroll (k - 1) fs gs = all_unroll k (length p.globals) fs in
     let o3 : List Function → Option Over = λ hs. over 3 256 (length hs ∷ []) in
-    let o4 : List Function → Option Over = λ hs. over 4 8 (map (λ (f : Function). f.parameters) hs) in
+    let o4 : List Function → Option Over = λ hs. over 4 8 (map (λ (f : Function). length f.takes) hs) in
     let o5 : List Function → Option Over = λ hs. over 5 4000 (map function_nodes hs) in
     let o6 : List Function → Option Over = λ hs. over 6 8192 (map (λ (f : Function). sum f.arrays) hs) in
     let o7 : Option Over = over 7 262144 (sum (map global_words p.globals) ∷ []) in
@@ -97,7 +97,7 @@ limits_kept k p e =
     let n6 = none_first (o6 fs) (or_else o7 (o8 fs)) n5.1 in
     let n7 = none_first o7 (o8 fs) n6.1 in
     both_none (o3 gs) (or_else (o4 gs) (or_else (o5 gs) (or_else (o6 gs) (or_else o7 (o8 gs))))) (ap (λ (n : ℕ). over 3 256 (n ∷ [])) (length_same all) ∙ n3.0)
-    (both_none (o4 gs) (or_else (o5 gs) (or_else (o6 gs) (or_else o7 (o8 gs)))) (ap (over 4 8) (same_of_all (λ (f : Function). f.parameters) (λ f body. refl) all) ∙ n4.0)
+    (both_none (o4 gs) (or_else (o5 gs) (or_else (o6 gs) (or_else o7 (o8 gs)))) (ap (over 4 8) (same_of_all (λ (f : Function). length f.takes) (λ f body. refl) all) ∙ n4.0)
     (both_none (o5 gs) (or_else (o6 gs) (or_else o7 (o8 gs))) (none_over 5 4000 (map function_nodes gs) (nodes_within k (length p.globals) fs (all_within 5 4000 (map function_nodes fs) n5.0)))
     (both_none (o6 gs) (or_else o7 (o8 gs)) (ap (over 6 8192) (same_of_all (λ (f : Function). sum f.arrays) (λ f body. refl) all) ∙ n6.0)
     (both_none o7 (o8 gs) n7.0 (none_over 8 4096 (flat_map lengths gs) (formats_within all (all_within 8 4096 (flat_map lengths fs) n7.1)))))))
@@ -107,19 +107,19 @@ limits_kept k p e =
 function_suits : (k : ℕ) (p : Program) (functions : List Function) → AllUnroll k p.functions functions → (f : Function) (body : Code) → Unrolls k f.body body → suits_function p f ≡ true → suits_function (record p { functions = functions }) (record f { body = body }) ≡ true
 function_suits k p functions all f body u e =
     let q : Program = record p { functions = functions } in
-    let code : Bool = suits_code p f.gives false (in_force_at_start f) f.body in
-    let fits : Bool = at_most f.parameters f.scalars in
+    let code : Bool = suits_code p f.gives false (in_force_at_start p f) f.body in
+    let fits : Bool = at_most f.parameters f.scalars && nat_eq f.parameters (numbers_taken f) in
     let sizes : Bool = list_all (nat_lt 0) f.arrays in
     let scalars : List ℕ → Bool = are_all_from f.parameters (f.scalars - f.parameters) in
-    let own : List ℕ → Bool = are_all_from (length p.globals) (length f.arrays) in
+    let own : List ℕ → Bool = are_all_from (length p.globals + arrays_taken f) (length f.arrays) in
     let a = and_parts (code && fits) (scalars (scalars_of f.body) && (own (arrays_of f.body) && sizes)) e in
     let b = and_parts code fits a.0 in
     let c = and_parts (scalars (scalars_of f.body)) (own (arrays_of f.body) && sizes) a.1 in
     let d = and_parts (own (arrays_of f.body)) sizes c.1 in
-    and_from (suits_code q f.gives false (in_force_at_start f) body && fits) (scalars (scalars_of body) && (own (arrays_of body) && sizes))
-    (and_from (suits_code q f.gives false (in_force_at_start f) body) fits (body_suits k p functions all f body u b.0) b.1)
+    and_from (suits_code q f.gives false (in_force_at_start q f) body && fits) (scalars (scalars_of body) && (own (arrays_of body) && sizes))
+    (and_from (suits_code q f.gives false (in_force_at_start q f) body) fits (body_suits k p functions all f body u b.0) b.1)
     (and_from (scalars (scalars_of body)) (own (arrays_of body) && sizes) (all_from_covered f.parameters (f.scalars - f.parameters) (scalars_of f.body) (scalars_of body) (scalars_covered u) c.0)
-    (and_from (own (arrays_of body)) sizes (all_from_covered (length p.globals) (length f.arrays) (arrays_of f.body) (arrays_of body) (arrays_covered u) d.0) d.1))
+    (and_from (own (arrays_of body)) sizes (all_from_covered (length p.globals + arrays_taken f) (length f.arrays) (arrays_of f.body) (arrays_of body) (arrays_covered u) d.0) d.1))
 
 functions_suit : (k : ℕ) (p : Program) (functions : List Function) → AllUnroll k p.functions functions → {fs gs : List Function} → AllUnroll k fs gs → list_all (suits_function p) fs ≡ true → list_all (suits_function (record p { functions = functions })) gs ≡ true
 functions_suit k p functions all NoneLeft e = refl

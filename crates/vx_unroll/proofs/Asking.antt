@@ -1,5 +1,5 @@
 -- Unrolling where it is asked: what holds of the unrolled program, and of the program as it was.
-use Rattle.std.proofs.Common.{◌≡◌, ℤ, List, Some, None, sym, subst, ap}
+use Rattle.std.proofs.Common.{◌≡◌, Some, None, sym, subst, ap}
 use Rattle.vx_base.specs.Outcome.{Same}
 use Rattle.vx_base.proofs.Same.{same_self}
 use Rattle.vx_ast.specs.Meaning.{source}

@@ -7,10 +7,11 @@ use Rattle.vx_base.specs.Outcome.{Ends}
 use Rattle.vx_base.specs.Arithmetic.{sum_of}
 use Rattle.vx_ast.specs.declared.tree.BinaryOperator.TheVariants.{Less, Equal}
 use Rattle.vx_ast.specs.declared.tree.UnaryOperator.TheVariants.{Not}
+use Rattle.vx_ast.specs.declared.tree.Takes.TheVariants.{Array as AnArray}
 use Rattle.vx_ast.specs.Tree.{One, Tree, Local, Element, Unary, Binary, ReadInt, InLocal, Assign, Increase, Code, Nothing, Empty, Block, Clear, Declare, ClearArray, Simply, Head, Print, If, While, DoWhile, For, Break, Continue, Program}
 use Rattle.vx_ast.specs.Meaning.{source, deepest}
 use Rattle.vx_ast.specs.Accepted.{function_nodes, is_accepted}
-use Rattle.vx_ast.proofs.Programs.{number, list_of, only, main_of, row, shows, line, returns}
+use Rattle.vx_ast.proofs.Programs.{number, list_of, only, taking, void_function, main_of, row, shows, line, returns}
 use Rattle.vx_unroll.specs.Unrolling.{function_words, unrolled_program}
 
 -- int n = read_int(); int i = 0; while (i < n) { printf("%d ", i); i++; } return 0;
@@ -91,6 +92,10 @@ fits = refl
 -- the first of two loops is unrolled, and then there is no room for the second
 first_alone : words_in (unrolled_program 3 (two_arrays 2000)) ≡ 8000 ∷ []
 first_alone = refl
+
+-- void v(int p[]) { while (1) { int a[2048]; .. } }: the function's own arrays stand behind its array parameters
+fits_behind : words_in (unrolled_program 4 (only [] (taking (AnArray ∷ []) (void_function 0 0 (2048 ∷ []) (reads 1 ∷ []))))) ≡ 8192 ∷ []
+fits_behind = refl
 
 -- while (1) { so many empty statements }: at two turns 4,000 nodes are in the limit, and 4,001 are not
 abbrev empties : List Code → ℕ → Program

@@ -1,5 +1,5 @@
 -- How much a function has where loops of it are unrolled.
-use Rattle.std.proofs.Common.{◌≡◌, ℕ, zero, suc, ◌+◌, ◌-◌, ◌≤◌, ◌<◌, Bool, true, false, List, Option, Some, None, refl, ap, ◌∙◌, arith, ltb-true}
+use Rattle.std.proofs.Common.{◌≡◌, ℕ, zero, suc, ◌+◌, ◌-◌, ◌≤◌, ◌<◌, Bool, true, false, List, length, Option, Some, None, refl, ap, ◌∙◌, arith, ltb-true}
 use Rattle.std.specs.Prelude.{if◌then◌else◌}
 use Rattle.std.specs.List.{sum_by}
 use Rattle.std.proofs.lemmas.Bool.{and_parts}
@@ -8,7 +8,7 @@ use Rattle.std.proofs.lemmas.List.Sums.{sum_by-append}
 use Rattle.vx_ast.specs.Tree.{One, Tree, Action, Code, Nothing, Seq, Block, Head, If, IfElse, While, DoWhile, For, Function}
 use Rattle.vx_ast.specs.Accepted.{at_most, nodes_of, test_nodes, code_nodes, function_nodes, arrays_of}
 use Rattle.vx_unroll.specs.declared.size.Size.{Size}
-use Rattle.vx_unroll.specs.Unrolling.{block_of, step_before, test_before, turns_of, while_body, for_body, has_loop, declared_words, exchanged, keeps_limits, Decided, inside, and_then, where_it_fits, unrolled_in, own_words, size_of, unrolled_function}
+use Rattle.vx_unroll.specs.Unrolling.{block_of, step_before, test_before, turns_of, while_body, for_body, has_loop, declared_words, exchanged, keeps_limits, Decided, inside, and_then, where_it_fits, unrolled_in, own_words, first_own, size_of, unrolled_function}
 use Rattle.vx_unroll.specs.Growth.{step_cost, test_cost}
 use Rattle.vx_unroll.specs.Laws.{WordsStayWithin}
 
@@ -158,17 +158,17 @@ module _ (words : ℕ → ℕ) where
 
 pub nodes_stay_within : (k globals : ℕ) (f : Function) → function_nodes f ≤ 4000 → function_nodes (unrolled_function k globals f) ≤ 4000
 nodes_stay_within k globals f h =
-    let words : ℕ → ℕ = own_words globals f.arrays in
+    let words : ℕ → ℕ = own_words (first_own globals f) f.arrays in
     let d : Decided = unrolled_in (k - 1) words (size_of globals f) f.body in
     let s = decided_so words (k - 1) (size_of globals f) f.body in
     let few : d.size.nodes ≤ 4000 = s.few_nodes h in
-    let n : d.size.nodes + code_nodes f.body ≡ (1 + f.parameters + code_nodes f.body) + code_nodes d.code = s.nodes in
-    let r : 1 + f.parameters + code_nodes d.code ≤ 4000 = omega (arith, few, n) in
+    let n : d.size.nodes + code_nodes f.body ≡ (1 + length f.takes + code_nodes f.body) + code_nodes d.code = s.nodes in
+    let r : 1 + length f.takes + code_nodes d.code ≤ 4000 = omega (arith, few, n) in
     r
 
 pub words_stay_within : WordsStayWithin
 words_stay_within k globals f h =
-    let words : ℕ → ℕ = own_words globals f.arrays in
+    let words : ℕ → ℕ = own_words (first_own globals f) f.arrays in
     let d : Decided = unrolled_in (k - 1) words (size_of globals f) f.body in
     let s = decided_so words (k - 1) (size_of globals f) f.body in
     let few : d.size.words ≤ 8192 = s.few_words h in

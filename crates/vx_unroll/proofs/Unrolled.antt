@@ -8,7 +8,7 @@ use Rattle.vx_ast.specs.Tree.{One, Tree, Action, Code, Nothing, Seq, Block, Head
 use Rattle.vx_ast.specs.Meaning.{Store, Part, With, Trapped, Going, Leaves, Falls, Breaks, Continues, Returns, Calls, Argument, arrays_given, and_then, value, after_body, turns, test_of, does, spot_in, back_in, result_of, entered, activate, active, deepest, at_start, outcome_of, source}
 use Rattle.vx_ast.proofs.MoreTurns.{out_of, Later, Leads, leads_self, leads_same, leads_then, CallsLead, leads_value, leads_tests, leads_on, leads_body, leads_turns, leads_turns_first, leads_does}
 use Rattle.vx_unroll.specs.declared.size.Size.{Size}
-use Rattle.vx_unroll.specs.Unrolling.{turns_of, while_body, for_body, has_loop, exchanged, keeps_limits, Decided, own_words, size_of, unrolled_in, unrolled_function}
+use Rattle.vx_unroll.specs.Unrolling.{turns_of, while_body, for_body, has_loop, exchanged, keeps_limits, Decided, own_words, first_own, size_of, unrolled_in, unrolled_function}
 use Rattle.vx_unroll.specs.Laws.{step_code, Unrolls, Kept, InSeq, InBlock, InIf, InIfElse, InWhile, InDoWhile, InFor, AWhile, AFor, AllUnroll, NoneLeft, AndMore, printed_by, EndsSo, StatementsKeep, UnrollingKeeps, UnrolledIsSame}
 use Rattle.vx_unroll.proofs.Beside.{extra, widens, narrows}
 use Rattle.vx_unroll.proofs.Copies.{step_falls, often_is, plain_turns}
@@ -237,7 +237,7 @@ module _ (k : ℕ) (words : ℕ → ℕ) where
 pub all_unroll : (k globals : ℕ) (fs : List Function) → AllUnroll (k - 1) fs (map (unrolled_function k globals) fs)
 all_unroll k globals [] = NoneLeft
 all_unroll k globals (f ∷ fs) =
-    AndMore f (unrolled_in (k - 1) (own_words globals f.arrays) (size_of globals f) f.body).code fs (map (unrolled_function k globals) fs) (decided_unrolls (k - 1) (own_words globals f.arrays) (size_of globals f) f.body) (all_unroll k globals fs)
+    AndMore f (unrolled_in (k - 1) (own_words (first_own globals f) f.arrays) (size_of globals f) f.body).code fs (map (unrolled_function k globals) fs) (decided_unrolls (k - 1) (own_words (first_own globals f) f.arrays) (size_of globals f) f.body) (all_unroll k globals fs)
 
 pub unrolled_is_same : UnrolledIsSame
 unrolled_is_same k p input = unrolling_keeps (k - 1) p (map (unrolled_function k (length p.globals)) p.functions) (all_unroll k (length p.globals) p.functions) input

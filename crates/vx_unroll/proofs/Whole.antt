@@ -2,8 +2,9 @@
 use Rattle.std.proofs.Common.{◌≡◌, ℕ, zero, suc, Bool, true, false, ◌&&◌, List, Option, Some, None, slice_get, refl, sym, ap, ◌∙◌}
 use Rattle.vx_ast.specs.declared.tree.Gives.{Gives}
 use Rattle.vx_ast.specs.declared.tree.Gives.TheVariants.{Int as GivesInt, Nothing as GivesNothing}
-use Rattle.vx_ast.specs.Tree.{Shape, One, Tree, Literal, Local, Global, Element, Unary, Binary, Both, Either, Choice, Apply, ReadInt, MoreInput, NoMore, Then, Place, InLocal, InGlobal, InElement, Action, Evaluate, Assign, Compound, Increase, Decrease, Code, Nothing, Seq, Empty, Block, Clear, Declare, ClearArray, Simply, Head, Print, If, IfElse, While, DoWhile, For, Break, Continue, Return, ReturnValue, Function, Program}
-use Rattle.vx_ast.specs.Accepted.{Scope, row_length, can_call, gives_int, is_format, numbers_of, suits, suits_place, suits_whole, suits_action, suits_test, suits_code, scope_after, in_force_at_start}
+use Rattle.vx_ast.specs.declared.tree.Takes.{Takes}
+use Rattle.vx_ast.specs.Tree.{Shape, One, Tree, Literal, Local, Global, Element, Unary, Binary, Both, Either, Choice, Apply, ReadInt, MoreInput, NoMore, Then, Hand, Place, InLocal, InGlobal, InElement, Action, Evaluate, Assign, Compound, Increase, Decrease, Code, Nothing, Seq, Empty, Block, Clear, Declare, ClearArray, Simply, Head, Print, If, IfElse, While, DoWhile, For, Break, Continue, Return, ReturnValue, Function, Program}
+use Rattle.vx_ast.specs.Accepted.{Scope, row_length, has_numbers, takes_of_row, can_call, gives_int, is_format, numbers_of, suits, suits_place, suits_whole, suits_action, suits_test, suits_code, scope_after, in_force_at_start}
 use Rattle.std.specs.Prelude.{nat_eq}
 use Rattle.vx_unroll.specs.Laws.{Unrolls, AllUnroll, NoneLeft, AndMore}
 use Rattle.vx_unroll.proofs.Suited.{suits_unrolled}
@@ -11,10 +12,10 @@ use Rattle.vx_unroll.proofs.Suited.{suits_unrolled}
 and_same : {a b c d : Bool} → a ≡ c → b ≡ d → (a && b) ≡ (c && d)
 and_same {a} {b} {c} {d} e h = ap (λ (x : Bool). x && b) e ∙ ap (λ (x : Bool). c && x) h
 
-call_same : {k : ℕ} {fs gs : List Function} → AllUnroll k fs gs → (wanted : Gives → Bool) (n i : ℕ) → can_call wanted n (slice_get fs i) ≡ can_call wanted n (slice_get gs i)
-call_same NoneLeft wanted n i = refl
-call_same (AndMore f body fs gs u all) wanted n zero = refl
-call_same (AndMore f body fs gs u all) wanted n (suc i) = call_same all wanted n i
+call_same : {k : ℕ} {fs gs : List Function} → AllUnroll k fs gs → (wanted : Gives → Bool) (takes : List Takes) (i : ℕ) → can_call wanted takes (slice_get fs i) ≡ can_call wanted takes (slice_get gs i)
+call_same NoneLeft wanted takes i = refl
+call_same (AndMore f body fs gs u all) wanted takes zero = refl
+call_same (AndMore f body fs gs u all) wanted takes (suc i) = call_same all wanted takes i
 
 module _ (k : ℕ) (p : Program) (functions : List Function) (all : AllUnroll k p.functions functions) where
   abbrev after : Program
@@ -30,14 +31,15 @@ module _ (k : ℕ) (p : Program) (functions : List Function) (all : AllUnroll k 
   suits_same sc (Both a b) = and_same (suits_same sc a) (suits_same sc b)
   suits_same sc (Either a b) = and_same (suits_same sc a) (suits_same sc b)
   suits_same sc (Choice c a b) = and_same (suits_same sc c) (and_same (suits_same sc a) (suits_same sc b))
-  suits_same sc (Apply f row) = and_same (call_same all gives_int (row_length row) f) (suits_same sc row)
+  suits_same sc (Apply f row) = and_same (call_same all gives_int (takes_of_row row) f) (suits_same sc row)
   suits_same sc ReadInt = refl
   suits_same sc MoreInput = refl
   suits_same sc NoMore = refl
   suits_same sc (Then a rest) = and_same (suits_same sc a) (suits_same sc rest)
+  suits_same sc (Hand a rest) = and_same refl (suits_same sc rest)
 
   whole_same : (sc : Scope) (e : Tree One) → suits_whole p sc e ≡ suits_whole after sc e
-  whole_same sc (Apply f row) = and_same (call_same all (λ gives. true) (row_length row) f) (suits_same sc row)
+  whole_same sc (Apply f row) = and_same (call_same all (λ gives. true) (takes_of_row row) f) (suits_same sc row)
   whole_same sc (Literal z) = refl
   whole_same sc (Local x) = refl
   whole_same sc (Global a) = refl
@@ -84,7 +86,7 @@ module _ (k : ℕ) (p : Program) (functions : List Function) (all : AllUnroll k 
   code_same gives loops sc (ClearArray a) = refl
   code_same gives loops sc (Simply a) = action_same sc a
   code_same gives loops sc (Head a) = action_same sc a
-  code_same gives loops sc (Print format row) = and_same {a = is_format format && nat_eq (numbers_of format) (row_length row)} refl (suits_same sc row)
+  code_same gives loops sc (Print format row) = and_same {a = is_format format && (nat_eq (numbers_of format) (row_length row) && has_numbers row)} refl (suits_same sc row)
   code_same gives loops sc (If e a) = and_same (suits_same sc e) (code_same gives loops sc a)
   code_same gives loops sc (IfElse e a b) = and_same (suits_same sc e) (and_same (code_same gives loops sc a) (code_same gives loops sc b))
   code_same gives loops sc (While e a) = and_same (suits_same sc e) (code_same gives true sc a)
@@ -97,5 +99,5 @@ module _ (k : ℕ) (p : Program) (functions : List Function) (all : AllUnroll k 
   code_same gives loops sc (ReturnValue e) = value_same gives loops sc e
 
   -- a function's body in the program behind
-  pub body_suits : (f : Function) (body : Code) → Unrolls k f.body body → suits_code p f.gives false (in_force_at_start f) f.body ≡ true → suits_code after f.gives false (in_force_at_start f) body ≡ true
-  body_suits f body u e = sym (code_same f.gives false (in_force_at_start f) body) ∙ suits_unrolled p f.gives u false (in_force_at_start f) e
+  pub body_suits : (f : Function) (body : Code) → Unrolls k f.body body → suits_code p f.gives false (in_force_at_start p f) f.body ≡ true → suits_code after f.gives false (in_force_at_start p f) body ≡ true
+  body_suits f body u e = sym (code_same f.gives false (in_force_at_start p f) body) ∙ suits_unrolled p f.gives u false (in_force_at_start p f) e

@@ -7,7 +7,7 @@ use Rattle.std.specs.List.{sum_by}
 use Rattle.vx_ast.specs.declared.tree.UnaryOperator.TheVariants.{Not}
 use Rattle.vx_unroll.specs.declared.size.Size.{Size}
 use Rattle.vx_ast.specs.Tree.{One, Tree, Unary, Action, Code, Nothing, Seq, Block, Simply, Head, If, IfElse, While, DoWhile, For, Break, Function, Program}
-use Rattle.vx_ast.specs.Accepted.{at_most, arrays_of, code_nodes, function_nodes}
+use Rattle.vx_ast.specs.Accepted.{at_most, arrays_taken, arrays_of, code_nodes, function_nodes}
 
 -- turns
 
@@ -93,20 +93,24 @@ unrolled_in more words now c = record { code = c; size = now }
 
 -- functions and programs
 
--- the words of an array that a function sees behind so many globals, where it is one of its own
-abbrev pub own_words : (globals : ℕ) → List ℕ → ℕ → ℕ
-own_words globals arrays a = if nat_lt a globals then 0 else slice_index_or arrays (a - globals) 0
+-- the words of an array, where it is one of a function's own, which are numbered from this number on
+abbrev pub own_words : (own : ℕ) → List ℕ → ℕ → ℕ
+own_words own arrays a = if nat_lt a own then 0 else slice_index_or arrays (a - own) 0
+
+-- the number of the first of them, which stands behind the globals and the array parameters
+abbrev pub first_own : (globals : ℕ) → Function → ℕ
+first_own globals f = globals + arrays_taken f
 
 -- the words that the arrays of a function's declarations have
 abbrev pub function_words : (globals : ℕ) → Function → ℕ
-function_words globals f = declared_words (own_words globals f.arrays) f.body
+function_words globals f = declared_words (own_words (first_own globals f) f.arrays) f.body
 
 abbrev pub size_of : (globals : ℕ) → Function → Size
 size_of globals f = record { nodes = function_nodes f; words = function_words globals f }
 
 -- with k turns in one
 abbrev pub unrolled_function : (k globals : ℕ) → Function → Function
-unrolled_function k globals f = record f { body = (unrolled_in (k - 1) (own_words globals f.arrays) (size_of globals f) f.body).code }
+unrolled_function k globals f = record f { body = (unrolled_in (k - 1) (own_words (first_own globals f) f.arrays) (size_of globals f) f.body).code }
 
 abbrev pub unrolled_program : (k : ℕ) → Program → Program
 unrolled_program k p = record p { functions = map (unrolled_function k (length p.globals)) p.functions }

@@ -2,11 +2,11 @@
 
 ghost use Rattle.std.specs.Prelude.{◌≡◌, IfOk, option_map};
 ghost use Rattle.vx_ast.specs.Tree as tree;
-ghost use Rattle.vx_ast.specs.View.{action_of, place_of, row_in, step_of, tree_of};
+ghost use Rattle.vx_ast.specs.View.{action_of, argument_before, arguments_in, place_of, row_in, step_of, tree_of};
 
 use crate::memory::{append, boxed};
 use std::alloc::Global;
-use vx_ast::tree::{Expression, Simple, Target};
+use vx_ast::tree::{Argument, Expression, Simple, Target};
 use vx_base::outcome::NoMemory;
 
 /// Two operands, each in a box.
@@ -50,7 +50,7 @@ pub(crate) fn copied(alloc: Global, expression: &Expression) -> Result<Expressio
             copied_choice(alloc, left, right, test)
         }
         Expression::Call(function, row) => {
-            let row = copied_row(alloc, row.as_slice())?;
+            let row = copied_arguments(alloc, row.as_slice())?;
             Ok(Expression::Call(*function, row))
         }
         Expression::ReadInt => Ok(Expression::ReadInt),
@@ -92,14 +92,40 @@ fn copied_both(alloc: Global, left: &Expression, right: &Expression) -> Result<O
     Ok(Operands { left, right })
 }
 
-/// A copy of a row of arguments.
+// A copy of an argument.
 #[cycle(copied)]
+fn copied_argument(alloc: Global, argument: &Argument) -> Result<Argument, NoMemory>
+    ensures { IfOk result (λ copy. argument_before copy tree.NoMore ≡ argument_before argument.now tree.NoMore) }
+{
+    match argument {
+        Argument::Number(number) => {
+            let number = copied(alloc, number)?;
+            Ok(Argument::Number(number))
+        }
+        Argument::Array(array) => Ok(Argument::Array(*array)),
+    }
+}
+
+// A copy of a row of arguments.
+#[cycle(copied)]
+fn copied_arguments(alloc: Global, row: &[Argument]) -> Result<Vec<Argument>, NoMemory>
+    ensures { IfOk result (λ copy. arguments_in copy.items ≡ arguments_in row.now) }
+{
+    let mut copy = Vec::new(alloc);
+    for argument in row {
+        let one = copied_argument(alloc, argument)?;
+        append(&mut copy, one)?;
+    }
+    Ok(copy)
+}
+
+/// A copy of a row of numbers.
 pub(crate) fn copied_row(alloc: Global, row: &[Expression]) -> Result<Vec<Expression>, NoMemory>
     ensures { IfOk result (λ copy. row_in copy.items ≡ row_in row.now) }
 {
     let mut copy = Vec::new(alloc);
-    for argument in row {
-        let one = copied(alloc, argument)?;
+    for number in row {
+        let one = copied(alloc, number)?;
         append(&mut copy, one)?;
     }
     Ok(copy)

@@ -1,36 +1,66 @@
 // Unrolling a whole program.
 
-ghost use Rattle.std.specs.Prelude.{◌≡◌, ◌≤◌, ℤ, List, true, IfOk, IfSome, map};
+ghost use Rattle.std.specs.Prelude.{◌≡◌, ◌∷◌, [], ◌≤◌, ◌<◌, ◌^◌, ℤ, List, true, IfOk, IfSome, length, map};
+ghost use Rattle.vx_ast.specs.Accepted.{arrays_among};
 ghost use Rattle.vx_ast.specs.Meaning.{source};
 ghost use Rattle.vx_ast.specs.View.{function_of, program_of};
 ghost use Rattle.vx_base.specs.Outcome.{Same};
 ghost use Rattle.std.specs.List.{list_all};
 ghost use Rattle.vx_unroll.specs.Growth.{has_few_words, is_small_function};
 ghost use Rattle.vx_unroll.specs.Laws.{names};
-ghost use Rattle.vx_unroll.specs.Unrolling.{Unrolled, UnrolledBy, function_words, size_of, unrolled_function, unrolled_program};
+ghost use Rattle.vx_unroll.specs.Unrolling.{Unrolled, UnrolledBy, first_own, function_words, size_of, unrolled_function, unrolled_program};
 
 use crate::memory::append;
 use crate::size::Size;
 use crate::unrolling::decided_all;
 use crate::words::list_words;
 use std::alloc::Global;
-use vx_ast::tree::{Function, Program};
+use vx_ast::tree::{Function, Program, Takes};
 use vx_ast::typed::Typed;
 use vx_base::listed::copied;
 use vx_base::outcome::NoMemory;
 use vx_limits::counted_nodes;
 
+// Whether a parameter takes an array: how many do, of it alone.
+fn array_taken(takes: Takes) -> usize
+    ensures count { result ≡ arrays_among (takes ∷ []) }
+    ensures one { result ≤ 1 }
+{
+    match takes {
+        Takes::Number => 0,
+        Takes::Array => 1,
+    }
+}
+
+// How many parameters take an array.
+fn arrays_taken(takes: &[Takes]) -> usize
+    ensures count { result ≡ arrays_among takes.now }
+    ensures few { result ≤ length takes.now }
+{
+    let mut count = 0;
+    for taken in takes {
+        count += array_taken(*taken);
+    }
+    count
+}
+
+// The number of the first of a function's own arrays.
+fn first_own(function: &Function, globals: usize) -> usize
+    requires few { globals < 2 ^ 32 }
+    ensures { result ≡ first_own globals (function_of function.now) }
+{
+    globals + arrays_taken(function.takes.as_slice())
+}
+
 // What a function has.
 fn size_of(function: &Function, globals: usize) -> Size
+    requires few { globals < 2 ^ 32 }
     requires small { is_small_function (function_of function.now) ≡ true }
     ensures { result ≡ size_of globals (function_of function.now) }
 {
     let nodes = counted_nodes(function);
-    let words = list_words(
-        function.body.as_slice(),
-        globals,
-        function.arrays.as_slice(),
-    );
+    let own = first_own(function, globals);
+    let words = list_words(function.body.as_slice(), own, function.arrays.as_slice());
     Size { nodes, words }
 }
 
@@ -43,17 +73,19 @@ fn function_unrolled(
 ) -> Result<Function, NoMemory>
     requires least { 2 ≤ factor }
     requires most { factor ≤ 8 }
+    requires few { globals < 2 ^ 32 }
     requires small { is_small_function (function_of function.now) ≡ true }
     ensures { IfOk result (λ made. function_of made ≡ unrolled_function factor globals (function_of function.now)) }
 {
     let size = size_of(function, globals);
     let name = copied(alloc, function.name.as_slice())?;
+    let takes = copied(alloc, function.takes.as_slice())?;
     let arrays = copied(alloc, function.arrays.as_slice())?;
     let made = decided_all(
         alloc,
         function.body.as_slice(),
         factor - 1,
-        globals,
+        first_own(function, globals),
         function.arrays.as_slice(),
         size,
     )?;
@@ -61,6 +93,7 @@ fn function_unrolled(
         name,
         gives: function.gives,
         parameters: function.parameters,
+        takes,
         scalars: function.scalars,
         arrays,
         body: made.all,
@@ -76,6 +109,7 @@ fn functions_unrolled(
 ) -> Result<Vec<Function>, NoMemory>
     requires least { 2 ≤ factor }
     requires most { factor ≤ 8 }
+    requires few { globals < 2 ^ 32 }
     requires small { list_all is_small_function (map function_of functions.now) ≡ true }
     ensures { IfOk result (λ made. map function_of made.items ≡ map (unrolled_function factor globals) (map function_of functions.now)) }
 {

@@ -138,7 +138,7 @@ fn grown_by(more: u32, size: Size, nodes: u64, turn: u64, behind: u64, words: u6
 /// limits.
 pub(crate) fn room_for(
     more: u32,
-    globals: usize,
+    own: usize,
     arrays: &[u32],
     size: Size,
     body: &Statement,
@@ -146,11 +146,11 @@ pub(crate) fn room_for(
 ) -> Option<Size>
     requires some { 0 < more }
     requires few { more < 8 }
-    ensures { (b : ℕ) → behind ≡ capped b → result ≡ fitting (grown more (own_words globals arrays.now) size (code_of body.now) b) }
+    ensures { (b : ℕ) → behind ≡ capped b → result ≡ fitting (grown more (own_words own arrays.now) size (code_of body.now) b) }
 {
     let nodes = statement_nodes(body);
     let turn = turn_nodes(body);
-    let words = statement_words(body, globals, arrays);
+    let words = statement_words(body, own, arrays);
     if is_small(size, nodes, behind, words) {
         fitting(grown_by(more, size, nodes, turn, behind, words))
     } else {

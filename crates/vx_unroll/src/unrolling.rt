@@ -62,13 +62,13 @@ fn decided(
     alloc: Global,
     statement: &Statement,
     more: u32,
-    globals: usize,
+    own: usize,
     arrays: &[u32],
     size: Size,
 ) -> Result<Made, NoMemory>
     requires some { 0 < more }
     requires few { more < 8 }
-    ensures code { IfOk result (λ made. decided_as (code_of made.statement) made.size ≡ unrolled_in more (own_words globals arrays.now) size (code_of statement.now)) }
+    ensures code { IfOk result (λ made. decided_as (code_of made.statement) made.size ≡ unrolled_in more (own_words own arrays.now) size (code_of statement.now)) }
     ensures loops { IfOk result (λ made. made.loops ≡ has_loop (code_of statement.now)) }
 {
     match statement {
@@ -78,7 +78,7 @@ fn decided(
             loops: false,
         }),
         Statement::Block(all) => {
-            let made = decided_all(alloc, all.as_slice(), more, globals, arrays, size)?;
+            let made = decided_all(alloc, all.as_slice(), more, own, arrays, size)?;
             Ok(Made {
                 statement: Statement::Block(made.all),
                 size: made.size,
@@ -110,7 +110,7 @@ fn decided(
             })
         }
         Statement::If(test, branch) => {
-            let held = decided_held(alloc, branch, more, globals, arrays, size)?;
+            let held = decided_held(alloc, branch, more, own, arrays, size)?;
             let test = copied(alloc, test)?;
             Ok(Made {
                 statement: Statement::If(test, held.statement),
@@ -119,8 +119,8 @@ fn decided(
             })
         }
         Statement::IfElse(test, left, right) => {
-            let left = decided_held(alloc, left, more, globals, arrays, size)?;
-            let both = decided_behind(alloc, right, more, globals, arrays, left)?;
+            let left = decided_held(alloc, left, more, own, arrays, size)?;
+            let both = decided_behind(alloc, right, more, own, arrays, left)?;
             let test = copied(alloc, test)?;
             Ok(Made {
                 statement: Statement::IfElse(test, both.left, both.right),
@@ -129,7 +129,7 @@ fn decided(
             })
         }
         Statement::While(test, body) => {
-            let held = while_decided(alloc, body, more, globals, arrays, size, test)?;
+            let held = while_decided(alloc, body, more, own, arrays, size, test)?;
             let test = copied(alloc, test)?;
             Ok(Made {
                 statement: Statement::While(test, held.statement),
@@ -138,7 +138,7 @@ fn decided(
             })
         }
         Statement::DoWhile(body, test) => {
-            let held = decided_held(alloc, body, more, globals, arrays, size)?;
+            let held = decided_held(alloc, body, more, own, arrays, size)?;
             let test = copied(alloc, test)?;
             Ok(Made {
                 statement: Statement::DoWhile(held.statement, test),
@@ -147,7 +147,7 @@ fn decided(
             })
         }
         Statement::For(first, test, step, body) => {
-            let held = for_decided(alloc, body, more, globals, arrays, size, test, step)?;
+            let held = for_decided(alloc, body, more, own, arrays, size, test, step)?;
             let size = held.size;
             let statement = for_made(alloc, first, test, step, held.statement)?;
             Ok(Made {
@@ -188,16 +188,16 @@ fn decided_held(
     alloc: Global,
     statement: &Statement,
     more: u32,
-    globals: usize,
+    own: usize,
     arrays: &[u32],
     size: Size,
 ) -> Result<Held, NoMemory>
     requires some { 0 < more }
     requires few { more < 8 }
-    ensures code { IfOk result (λ made. decided_as (code_of made.statement.value) made.size ≡ unrolled_in more (own_words globals arrays.now) size (code_of statement.now)) }
+    ensures code { IfOk result (λ made. decided_as (code_of made.statement.value) made.size ≡ unrolled_in more (own_words own arrays.now) size (code_of statement.now)) }
     ensures loops { IfOk result (λ made. made.loops ≡ has_loop (code_of statement.now)) }
 {
-    let made = decided(alloc, statement, more, globals, arrays, size)?;
+    let made = decided(alloc, statement, more, own, arrays, size)?;
     let size = made.size;
     let loops = made.loops;
     let statement = boxed(alloc, made.statement)?;
@@ -214,17 +214,17 @@ fn decided_behind(
     alloc: Global,
     right: &Statement,
     more: u32,
-    globals: usize,
+    own: usize,
     arrays: &[u32],
     left: Held,
 ) -> Result<BothHeld, NoMemory>
     requires some { 0 < more }
     requires few { more < 8 }
     ensures left { IfOk result (λ made. code_of made.left.value ≡ code_of left.statement.value) }
-    ensures right { IfOk result (λ made. decided_as (code_of made.right.value) made.size ≡ unrolled_in more (own_words globals arrays.now) left.size (code_of right.now)) }
+    ensures right { IfOk result (λ made. decided_as (code_of made.right.value) made.size ≡ unrolled_in more (own_words own arrays.now) left.size (code_of right.now)) }
     ensures loops { IfOk result (λ made. made.loops ≡ (if left.loops then true else has_loop (code_of right.now))) }
 {
-    let right = decided_held(alloc, right, more, globals, arrays, left.size)?;
+    let right = decided_held(alloc, right, more, own, arrays, left.size)?;
     let loops = either(left.loops, right.loops);
     Ok(BothHeld {
         left: left.statement,
@@ -240,20 +240,20 @@ pub(crate) fn decided_all(
     alloc: Global,
     all: &[Statement],
     more: u32,
-    globals: usize,
+    own: usize,
     arrays: &[u32],
     size: Size,
 ) -> Result<AllMade, NoMemory>
     requires some { 0 < more }
     requires few { more < 8 }
-    ensures code { IfOk result (λ made. decided_as (all_in made.all.items) made.size ≡ unrolled_in more (own_words globals arrays.now) size (all_in all.now)) }
+    ensures code { IfOk result (λ made. decided_as (all_in made.all.items) made.size ≡ unrolled_in more (own_words own arrays.now) size (all_in all.now)) }
     ensures loops { IfOk result (λ made. made.loops ≡ has_loop (all_in all.now)) }
 {
     let mut made = Vec::new(alloc);
     let mut reached = size;
     let mut loops = false;
     for one in all {
-        let done = decided(alloc, one, more, globals, arrays, reached)?;
+        let done = decided(alloc, one, more, own, arrays, reached)?;
         reached = done.size;
         loops = either(loops, done.loops);
         append(&mut made, done.statement)?;
@@ -271,7 +271,7 @@ fn turn_copy(
     alloc: Global,
     body: &Statement,
     more: u32,
-    globals: usize,
+    own: usize,
     arrays: &[u32],
     size: Size,
 ) -> Result<Statement, NoMemory>
@@ -280,7 +280,7 @@ fn turn_copy(
     requires plain { has_loop (code_of body.now) ≡ false }
     ensures { IfOk result (λ turn. code_of turn ≡ block_of (code_of body.now)) }
 {
-    let made = decided(alloc, body, more, globals, arrays, size)?;
+    let made = decided(alloc, body, more, own, arrays, size)?;
     turn_of(alloc, made.statement)
 }
 
@@ -290,7 +290,7 @@ fn while_front(
     alloc: Global,
     body: &Statement,
     more: u32,
-    globals: usize,
+    own: usize,
     arrays: &[u32],
     size: Size,
     test: &Expression,
@@ -302,7 +302,7 @@ fn while_front(
 {
     let mut front = Vec::new(alloc);
     for _turn in 0..more {
-        let turn = turn_copy(alloc, body, more, globals, arrays, size)?;
+        let turn = turn_copy(alloc, body, more, own, arrays, size)?;
         append(&mut front, turn)?;
         put_test(alloc, &mut front, test)?;
     }
@@ -315,7 +315,7 @@ fn for_front(
     alloc: Global,
     body: &Statement,
     more: u32,
-    globals: usize,
+    own: usize,
     arrays: &[u32],
     size: Size,
     test: &Option<Expression>,
@@ -328,7 +328,7 @@ fn for_front(
 {
     let mut front = Vec::new(alloc);
     for _turn in 0..more {
-        let turn = turn_copy(alloc, body, more, globals, arrays, size)?;
+        let turn = turn_copy(alloc, body, more, own, arrays, size)?;
         append(&mut front, turn)?;
         put_behind(alloc, &mut front, test, step)?;
     }
@@ -341,23 +341,23 @@ fn while_decided(
     alloc: Global,
     body: &Statement,
     more: u32,
-    globals: usize,
+    own: usize,
     arrays: &[u32],
     size: Size,
     test: &Expression,
 ) -> Result<Held, NoMemory>
     requires some { 0 < more }
     requires few { more < 8 }
-    ensures { IfOk result (λ made. decided_as (code_of made.statement.value) made.size ≡ (if has_loop (code_of body.now) then unrolled_in more (own_words globals arrays.now) size (code_of body.now) else where_it_fits (own_words globals arrays.now) size (code_of body.now) (while_body more (tree_of test.now) (code_of body.now)))) }
+    ensures { IfOk result (λ made. decided_as (code_of made.statement.value) made.size ≡ (if has_loop (code_of body.now) then unrolled_in more (own_words own arrays.now) size (code_of body.now) else where_it_fits (own_words own arrays.now) size (code_of body.now) (while_body more (tree_of test.now) (code_of body.now)))) }
 {
-    let held = decided_held(alloc, body, more, globals, arrays, size)?;
+    let held = decided_held(alloc, body, more, own, arrays, size)?;
     if held.loops {
         return Ok(held);
     }
-    match room_for(more, globals, arrays, size, body, while_cost(test)) {
+    match room_for(more, own, arrays, size, body, while_cost(test)) {
         None => Ok(held),
         Some(next) => {
-            let front = while_front(alloc, body, more, globals, arrays, size, test)?;
+            let front = while_front(alloc, body, more, own, arrays, size, test)?;
             let statement = closed(alloc, front, held.statement)?;
             Ok(Held {
                 statement,
@@ -374,7 +374,7 @@ fn for_decided(
     alloc: Global,
     body: &Statement,
     more: u32,
-    globals: usize,
+    own: usize,
     arrays: &[u32],
     size: Size,
     test: &Option<Expression>,
@@ -382,16 +382,16 @@ fn for_decided(
 ) -> Result<Held, NoMemory>
     requires some { 0 < more }
     requires few { more < 8 }
-    ensures { IfOk result (λ made. decided_as (code_of made.statement.value) made.size ≡ (if has_loop (code_of body.now) then unrolled_in more (own_words globals arrays.now) size (code_of body.now) else where_it_fits (own_words globals arrays.now) size (code_of body.now) (for_body more (option_map tree_of test.now) (step_of step.now) (code_of body.now)))) }
+    ensures { IfOk result (λ made. decided_as (code_of made.statement.value) made.size ≡ (if has_loop (code_of body.now) then unrolled_in more (own_words own arrays.now) size (code_of body.now) else where_it_fits (own_words own arrays.now) size (code_of body.now) (for_body more (option_map tree_of test.now) (step_of step.now) (code_of body.now)))) }
 {
-    let held = decided_held(alloc, body, more, globals, arrays, size)?;
+    let held = decided_held(alloc, body, more, own, arrays, size)?;
     if held.loops {
         return Ok(held);
     }
-    match room_for(more, globals, arrays, size, body, for_cost(test, step)) {
+    match room_for(more, own, arrays, size, body, for_cost(test, step)) {
         None => Ok(held),
         Some(next) => {
-            let front = for_front(alloc, body, more, globals, arrays, size, test, step)?;
+            let front = for_front(alloc, body, more, own, arrays, size, test, step)?;
             let statement = closed(alloc, front, held.statement)?;
             Ok(Held {
                 statement,

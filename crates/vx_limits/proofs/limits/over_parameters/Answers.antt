@@ -1,19 +1,20 @@
-use Rattle.std.proofs.Common.{◌∙◌, ℕ, List, Some, map, refl, ap}
+use Rattle.std.proofs.Common.{◌∙◌, ◌<◌, ◌≤◌, ℕ, List, Some, length, map, refl, ap, sym, arith}
 use Rattle.vx_ast.specs.declared.tree.Function.{Function}
 use Rattle.vx_ast.specs.Tree as tree
 use Rattle.vx_ast.specs.View.{function_of}
 use Rattle.vx_limits.specs.Capped.{over_of}
-use Rattle.vx_limits.proofs.Counting.{over_found, over_left}
+use Rattle.vx_limits.proofs.Counting.{over_found_count, over_left}
 use Rattle.vx_limits.proofs.limits.over_parameters.Goals as goal
 
 abbrev parameters : List Function → List ℕ
-parameters all = map (λ (f : tree.Function). f.parameters) (map function_of all)
+parameters all = map (λ (f : tree.Function). length f.takes) (map function_of all)
 
 pub loop-function-preserved : goal.loop-function-preserved
 loop-function-preserved c =
-    over_left parameters 4 8 c.function-item.result.parameters c.args.functions.now c.loop-function.function-index c.function-item.result _ c.loop-function.invariant c.loop-function-test.true c.function-item.is refl c.if-function-gt8.false
+    let e = c.len-count.ensures.len in
+    let few : length c.function-item.result.takes ≤ 8 = omega (arith, e, c.if-count-gt8.false) in
+    over_left parameters 4 8 (length c.function-item.result.takes) c.args.functions.now c.loop-function.function-index c.function-item.result _ c.loop-function.invariant c.loop-function-test.true c.function-item.is refl few
 
-pub returns-then-function-gt8 : goal.returns-then-function-gt8
-returns-then-function-gt8 c =
-    ap (λ (n : ℕ). Some (over_of 4 n)) c.from.ensures
-    ∙ over_found parameters 4 8 c.function-item.result.parameters c.args.functions.now c.loop-function.function-index c.function-item.result _ c.loop-function.invariant c.loop-function-test.true c.function-item.is refl c.if-function-gt8.true
+pub returns-then-count-gt8 : goal.returns-then-count-gt8
+returns-then-count-gt8 c =
+    over_found_count parameters 4 8 c.len-count.result (length c.function-item.result.takes) c.args.functions.now c.loop-function.function-index c.function-item.result _ c.loop-function.invariant c.loop-function-test.true c.function-item.is refl c.if-count-gt8.true c.len-count.ensures.len

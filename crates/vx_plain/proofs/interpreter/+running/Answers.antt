@@ -1,4 +1,4 @@
-use Rattle.std.proofs.Common.{◌≡◌, ◌∙◌, ap, sym, subst, refl, rules, arith, ℤ, pos, w32, to_z, of_z, FitsSigned, slice_get, Some, Err, length, drop, map, List, [], ◌∷◌, ◌++◌, ◌+◌, ◌<◌}
+use Rattle.std.proofs.Common.{◌≡◌, ◌∙◌, ap, sym, subst, refl, rules, arith, ℤ, pos, w32, FitsSigned, slice_get, Some, Err, length, drop, map, [], ◌∷◌, ◌++◌, ◌+◌, ◌<◌}
 use Rattle.std.proofs.lemmas.Int.{to_z-of_z}
 use Rattle.std.proofs.lemmas.Option.{slice_get_read}
 use Rattle.std.specs.Option.{option_map}
@@ -6,13 +6,15 @@ use Rattle.vx_ast.specs.Tree as tree
 use Rattle.vx_ast.specs.Tree.{Apply}
 use Rattle.vx_base.specs.Arithmetic.{sum_of, difference_of}
 use Rattle.vx_ast.specs.Meaning.{NumberArgument, With, Falls, does, test_of, value, and_then, combined}
-use Rattle.vx_ast.proofs.Arguments.{numbers_are, no_arrays}
+use Rattle.vx_ast.proofs.Arguments.{numbers_are}
 use Rattle.vx_plain.specs.Kept.{store_of}
-use Rattle.vx_ast.specs.View.{all_in, code_of, step_of, row_in, tree_of, place_of, function_of}
-use Rattle.vx_plain.specs.Interpreting.{Comes, itself, falls, calls_at, spot_at}
-use Rattle.vx_plain.proofs.InterpreterSteps.{stop_as, stop_then, on_then, stop_index, on_index, go_through, go_around, gives, view_Call, view_Block, view_Print, one_more, chain, from_located, stop_located, given_to, called, stop_result, on_result}
-use Rattle.vx_plain.proofs.InterpreterLoops.{row_stop, row_more, fall_on, while_more, do_out, do_on, do_more, for_stop, for_out, for_step_stop, for_more}
+use Rattle.vx_ast.specs.View.{all_in, code_of, step_of, arguments_in, row_in, tree_of, place_of}
+use Rattle.vx_plain.specs.Interpreting.{Comes, itself, calls_at, spot_at}
+use Rattle.vx_plain.proofs.InterpreterSteps.{stop_then, on_then, stop_index, on_index, go_through, go_around, gives, view_Call, view_Block, one_more, chain, from_located, stop_located, given_to, called, stop_result, on_result}
+use Rattle.std.proofs.lemmas.List.{drop_all}
+use Rattle.vx_plain.proofs.InterpreterLoops.{row_stop, row_more, so_far_begin, so_far_end, number_more, array_more, fall_on, while_more, do_out, do_on, do_more, for_stop, for_out, for_step_stop, for_more}
 use Rattle.vx_plain.proofs.interpreter.+running.Goals as goal
+use Rattle.vx_plain.proofs.interpreter.+running.Goals.{evaluate_arguments-in-Number+in_ok-x-in-Number+in_ok-push-in-Number, evaluate_arguments-in-Array+in_ok-push-in-Array}
 
 pub evaluate-returns-in_err-index-in-Element : goal.evaluate-returns-in_err-index-in-Element
 evaluate-returns-in_err-index-in-Element t c =
@@ -100,15 +102,16 @@ evaluate-returns-else-test-ne0 t c =
     let h : FitsSigned w32 c.in_ok-test-in-Choice.test = search rules in
     rw (c.in-Choice.is, ← c.deref-in-Choice.ensures, ← c.deref-else-test-ne0.ensures) (on_then _ _ _ _ _ _ _ c.in_ok-test-in-Choice.ensures.is (go_around _ _ _ c.in_ok-test-in-Choice.test _ _ h c.if-test-ne0.false c.evaluate-else-test-ne0.ensures))
 
-pub evaluate-returns-in_err-arguments-in-Call : goal.evaluate-returns-in_err-arguments-in-Call
-evaluate-returns-in_err-arguments-in-Call t c =
-    let e : tree_of c.args.e.now ≡ Apply c.in-Call.f (row_in c.as_slice.result.now) = ap tree_of c.in-Call.is ∙ view_Call c.in-Call.f c.in-Call.row ∙ ap (λ l. Apply c.in-Call.f (row_in l)) (sym c.as_slice.ensures.value) in
-    rw e (stop_then _ _ _ c.in_err-arguments-in-Call.field-0.0 _ _ _ c.from_residual-in_err-arguments-in-Call.ensures.1 c.in_err-arguments-in-Call.ensures)
+pub evaluate-returns-in_err-given-in-Call : goal.evaluate-returns-in_err-given-in-Call
+evaluate-returns-in_err-given-in-Call t c =
+    let e : tree_of c.args.e.now ≡ Apply c.in-Call.f (arguments_in c.as_slice.result.now) = ap tree_of c.in-Call.is ∙ view_Call c.in-Call.f c.in-Call.row ∙ ap (λ l. Apply c.in-Call.f (arguments_in l)) (sym c.as_slice.ensures.value) in
+    rw e (stop_then _ _ _ c.in_err-given-in-Call.field-0.0 _ _ _ c.from_residual-in_err-given-in-Call.ensures.1 c.in_err-given-in-Call.ensures)
 
-pub evaluate-returns-in_ok-arguments-in-Call : goal.evaluate-returns-in_ok-arguments-in-Call
-evaluate-returns-in_ok-arguments-in-Call t c =
-    let e : tree_of c.args.e.now ≡ Apply c.in-Call.f (row_in c.as_slice.result.now) = ap tree_of c.in-Call.is ∙ view_Call c.in-Call.f c.in-Call.row ∙ ap (λ l. Apply c.in-Call.f (row_in l)) (sym c.as_slice.ensures.value) in
-    rw e (on_then _ _ _ _ _ _ _ c.in_ok-arguments-in-Call.ensures.is (c.call.ensures _ (numbers_are c.in_ok-arguments-in-Call.arguments.items) (no_arrays c.in_ok-arguments-in-Call.arguments.items)))
+pub evaluate-returns-in_ok-given-in-Call : goal.evaluate-returns-in_ok-given-in-Call
+evaluate-returns-in_ok-given-in-Call t c =
+    let e : tree_of c.args.e.now ≡ Apply c.in-Call.f (arguments_in c.as_slice.result.now) = ap tree_of c.in-Call.is ∙ view_Call c.in-Call.f c.in-Call.row ∙ ap (λ l. Apply c.in-Call.f (arguments_in l)) (sym c.as_slice.ensures.value) in
+    let g = c.in_ok-given-in-Call.ensures in
+    rw e (on_then _ _ _ _ _ _ _ g.is (c.call.ensures g.all g.numbers (g.arrays ∙ sym c.as_slice-in-Call.ensures.value)))
 
 pub act-returns-in_err-place-in-Assign : goal.act-returns-in_err-place-in-Assign
 act-returns-in_err-place-in-Assign t c =
@@ -192,6 +195,24 @@ evaluate_row-loop-e-preserved t c =
     subst (λ l. value (spot_at c.args.program.now c.args.at.now) (calls_at c.args.program.now c.args.at.now) (row_in c.args.row.now) (store_of c.args.store.now) ≡ and_then (value (spot_at c.args.program.now c.args.at.now) (calls_at c.args.program.now c.args.at.now) (row_in (drop (c.loop-e.e-index + 1) c.args.row.now)) (store_of c.evaluate.new.store)) (λ xs u. With (map NumberArgument l ++ xs) u)) (sym pushed)
     (subst (λ l. value (spot_at c.args.program.now c.args.at.now) (calls_at c.args.program.now c.args.at.now) (row_in c.args.row.now) (store_of c.args.store.now) ≡ and_then (value (spot_at c.args.program.now c.args.at.now) (calls_at c.args.program.now c.args.at.now) (row_in (drop (c.loop-e.e-index + 1) c.args.row.now)) (store_of c.evaluate.new.store)) (λ xs u. With (l ++ xs) u)) (sym (one_more c.loop-e.numbers.items c.in_ok-x.x))
     (row_more (spot_at c.args.program.now c.args.at.now) (calls_at c.args.program.now c.args.at.now) c.args.row.now c.loop-e.e-index (map NumberArgument c.loop-e.numbers.items) (store_of c.args.store.now) (store_of c.loop-e.store) c.e-item.result c.loop-e.invariant h c.e-item.is c.in_ok-x.x (store_of c.evaluate.new.store) c.in_ok-x.ensures.is))
+
+pub evaluate_arguments-loop-argument-init : goal.evaluate_arguments-loop-argument-init
+evaluate_arguments-loop-argument-init t c = so_far_begin (spot_at c.args.program.now c.args.at.now) (calls_at c.args.program.now c.args.at.now) c.args.row.now c.new-numbers.result.items c.new-arrays.result.items (store_of c.args.store.now) c.new-numbers.ensures.items c.new-arrays.ensures.items
+
+pub evaluate_arguments-loop-argument-preserved : goal.evaluate_arguments-loop-argument-preserved
+evaluate_arguments-loop-argument-preserved t c =
+    let h : c.loop-argument.argument-index < length c.args.row.now = omega arith in
+    elim c.match-argument.branch [
+      | evaluate_arguments-in-Number+in_ok-x-in-Number+in_ok-push-in-Number w ↦
+          let f : FitsSigned w32 w.in_ok-x-in-Number.x = search rules in
+          let pushed : w.push.new.self.items ≡ c.loop-argument.numbers.items ++ w.in_ok-x-in-Number.x ∷ [] = rw (to_z-of_z w32 w.in_ok-x-in-Number.x f) at w.in_ok-push-in-Number.ensures.items in
+          rw (w.store-is, w.numbers-is, w.arrays-is) (number_more (spot_at c.args.program.now c.args.at.now) (calls_at c.args.program.now c.args.at.now) c.args.row.now c.loop-argument.argument-index c.loop-argument.numbers.items c.loop-argument.arrays.items (store_of c.args.store.now) (store_of c.loop-argument.store) c.argument-item.result c.loop-argument.invariant h c.argument-item.is w.in-Number.e w.in-Number.is w.in_ok-x-in-Number.x (store_of w.evaluate.new.store) w.push.new.self.items w.in_ok-x-in-Number.ensures.is pushed)
+      | evaluate_arguments-in-Array+in_ok-push-in-Array w ↦
+          rw (w.store-is, w.numbers-is, w.arrays-is) (array_more (spot_at c.args.program.now c.args.at.now) (calls_at c.args.program.now c.args.at.now) c.args.row.now c.loop-argument.argument-index c.loop-argument.numbers.items c.loop-argument.arrays.items (store_of c.args.store.now) (store_of c.loop-argument.store) c.argument-item.result c.loop-argument.invariant h c.argument-item.is w.in-Array.a w.spot.result w.in-Array.is w.spot.ensures w.push-in-Array.new.self.items w.in_ok-push-in-Array.ensures.items)
+    ]
+
+pub evaluate_arguments-returns : goal.evaluate_arguments-returns
+evaluate_arguments-returns t c = so_far_end (spot_at c.args.program.now c.args.at.now) (calls_at c.args.program.now c.args.at.now) c.args.row.now c.loop-argument.argument-index _ (store_of c.args.store.now) c.loop-argument.store c.loop-argument.invariant (drop_all c.loop-argument.argument-index c.args.row.now c.loop-argument-test.false)
 
 pub execute-returns-in_err-numbers-in-Print : goal.execute-returns-in_err-numbers-in-Print
 execute-returns-in_err-numbers-in-Print t c =

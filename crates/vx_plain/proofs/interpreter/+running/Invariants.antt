@@ -6,6 +6,7 @@ use Rattle.vx_ast.specs.Meaning.{NumberArgument, With, value, and_then, does, tu
 use Rattle.vx_plain.specs.Interpreting.{calls_at, spot_at}
 use Rattle.vx_plain.specs.Kept.{store_of}
 use Rattle.vx_ast.specs.View.{tree_of, row_in, items_of, all_in, code_of, step_of}
+use Rattle.vx_plain.proofs.InterpreterLoops.{SoFar}
 use Rattle.vx_plain.proofs.interpreter.+running.Given as goal
 
 abbrev pub decreases-evaluate : goal.decreases-evaluate
@@ -13,6 +14,9 @@ decreases-evaluate l = l.room
 
 abbrev pub decreases-evaluate_row : goal.decreases-evaluate_row
 decreases-evaluate_row l = l.room
+
+abbrev pub decreases-evaluate_arguments : goal.decreases-evaluate_arguments
+decreases-evaluate_arguments l = l.room
 
 abbrev pub decreases-call : goal.decreases-call
 decreases-call l = l.room
@@ -58,6 +62,9 @@ abbrev pub invariant-evaluate_row-loop-e : goal.invariant-evaluate_row-loop-e
 invariant-evaluate_row-loop-e l =
     value (spot_at l.program l.at) (calls_at l.program l.at) (row_in l.row) (store_of l.initial.store)
     ≡ and_then (value (spot_at l.program l.at) (calls_at l.program l.at) (row_in (drop l.e-index l.row)) (store_of l.store)) (λ xs t. With (map NumberArgument l.numbers.items ++ xs) t)
+
+abbrev pub invariant-evaluate_arguments-loop-argument : goal.invariant-evaluate_arguments-loop-argument
+invariant-evaluate_arguments-loop-argument l = SoFar (spot_at l.program l.at) (calls_at l.program l.at) l.row l.argument-index l.numbers.items l.arrays.items (store_of l.initial.store) (store_of l.store)
 
 abbrev pub invariant-declare-loop-item : goal.invariant-declare-loop-item
 invariant-declare-loop-item l =

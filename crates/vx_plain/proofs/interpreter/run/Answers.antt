@@ -1,4 +1,4 @@
-use Rattle.std.proofs.Common.{◌≡◌, ◌∙◌, [], refl, ap, sym, rules, w32, to_z, of_z, FitsSigned}
+use Rattle.std.proofs.Common.{[], refl, ap, sym, rules, w32, FitsSigned}
 use Rattle.std.proofs.lemmas.Int.{to_z-of_z}
 use Rattle.vx_ast.specs.Meaning.{deepest, outcome_of}
 use Rattle.vx_plain.proofs.InterpreterSteps.{trap_is, bound_is}

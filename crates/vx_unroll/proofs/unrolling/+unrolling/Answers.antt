@@ -17,7 +17,7 @@ decided-decided_all-requires t c =
 
 pub decided-returns-in_ok-made-in-Block-clause-code : goal.decided-returns-in_ok-made-in-Block-clause-code
 decided-returns-in_ok-made-in-Block-clause-code t c =
-    let w = own_words c.args.globals c.args.arrays.now in
+    let w = own_words c.args.own c.args.arrays.now in
     ap (λ (z : Code). decided_as z c.in_ok-made-in-Block.made.size) (block_view c.in_ok-made-in-Block.made.all)
     ∙ ap (inside Block) c.in_ok-made-in-Block.ensures.code
     ∙ ap (λ (z : List Statement). unrolled_in c.args.more w c.args.size (Block (all_in z))) c.as_slice.ensures.value
@@ -30,7 +30,7 @@ decided-returns-in_ok-made-in-Block-clause-loops t c =
 
 pub decided-returns-in_ok-items-in-Declaration-clause-code : goal.decided-returns-in_ok-items-in-Declaration-clause-code
 decided-returns-in_ok-items-in-Declaration-clause-code t c =
-    let w = own_words c.args.globals c.args.arrays.now in
+    let w = own_words c.args.own c.args.arrays.now in
     let is = c.in-Declaration.items.items in
     ap (λ (z : Code). decided_as z c.args.size) (c.in_ok-items-in-Declaration.ensures ∙ ap items_of c.as_slice-in-Declaration.ensures.value)
     ∙ sym (plain c.args.more w c.args.size (items_of is) (items_loops is))
@@ -44,21 +44,21 @@ decided_all-decided-requires t c = (one_falls c.args.all.now c.loop-one.one-inde
 
 pub decided_all-loop-one-preserved : goal.decided_all-loop-one-preserved
 decided_all-loop-one-preserved t c =
-    all_step c.args.more (own_words c.args.globals c.args.arrays.now) c.args.size c.loop-one.reached c.in_ok-done.done.size c.loop-one.loops c.in_ok-done.done.loops c.either-loops.result c.loop-one.made.items c.append.new.made.items
+    all_step c.args.more (own_words c.args.own c.args.arrays.now) c.args.size c.loop-one.reached c.in_ok-done.done.size c.loop-one.loops c.in_ok-done.done.loops c.either-loops.result c.loop-one.made.items c.append.new.made.items
     (drop c.loop-one.one-index c.args.all.now) (drop (c.loop-one.one-index + 1) c.args.all.now) c.args.all.now c.one-item.result c.in_ok-done.done.statement c.loop-one.invariant
     (drop_next c.args.all.now c.loop-one.one-index c.one-item.result c.loop-one-test.true c.one-item.is) c.in_ok-done.ensures.code c.in_ok-done.ensures.loops c.either-loops.ensures c.in_ok-append.ensures
 
 pub decided_all-returns-clause-code : goal.decided_all-returns-clause-code
 decided_all-returns-clause-code t c =
-    (all_end c.args.more (own_words c.args.globals c.args.arrays.now) c.args.size c.loop-one.reached c.loop-one.loops c.loop-one.made.items (drop c.loop-one.one-index c.args.all.now) c.args.all.now c.loop-one.invariant (drop_all c.loop-one.one-index c.args.all.now c.loop-one-test.false)).0
+    (all_end c.args.more (own_words c.args.own c.args.arrays.now) c.args.size c.loop-one.reached c.loop-one.loops c.loop-one.made.items (drop c.loop-one.one-index c.args.all.now) c.args.all.now c.loop-one.invariant (drop_all c.loop-one.one-index c.args.all.now c.loop-one-test.false)).0
 
 pub decided_all-returns-clause-loops : goal.decided_all-returns-clause-loops
 decided_all-returns-clause-loops t c =
-    (all_end c.args.more (own_words c.args.globals c.args.arrays.now) c.args.size c.loop-one.reached c.loop-one.loops c.loop-one.made.items (drop c.loop-one.one-index c.args.all.now) c.args.all.now c.loop-one.invariant (drop_all c.loop-one.one-index c.args.all.now c.loop-one-test.false)).1
+    (all_end c.args.more (own_words c.args.own c.args.arrays.now) c.args.size c.loop-one.reached c.loop-one.loops c.loop-one.made.items (drop c.loop-one.one-index c.args.all.now) c.args.all.now c.loop-one.invariant (drop_all c.loop-one.one-index c.args.all.now c.loop-one-test.false)).1
 
 pub turn_copy-returns : goal.turn_copy-returns
 turn_copy-returns t c =
-    let w = own_words c.args.globals c.args.arrays.now in
+    let w = own_words c.args.own c.args.arrays.now in
     let same : code_of c.in_ok-made.made.statement ≡ code_of c.args.body.now = same_code _ _ c.in_ok-made.made.size c.args.size (c.in_ok-made.ensures.code ∙ plain c.args.more w c.args.size (code_of c.args.body.now) c.requires.plain) in
     subst (λ (z : Code). IfOk c.turn_of.result (λ turn. code_of turn ≡ block_of z)) same c.turn_of.ensures
 
@@ -80,7 +80,7 @@ while_front-returns t c =
 
 pub while_decided-returns-in-None : goal.while_decided-returns-in-None
 while_decided-returns-in-None t c =
-    let w = own_words c.args.globals c.args.arrays.now in
+    let w = own_words c.args.own c.args.arrays.now in
     body_kept c.args.more w c.args.size (code_of c.args.body.now) (while_body c.args.more (tree_of c.args.test.now) (code_of c.args.body.now))
     (grown c.args.more w c.args.size (code_of c.args.body.now) (step_cost None + test_cost (Some (tree_of c.args.test.now)))) (exchanged_is c.args.more w c.args.size (Some (tree_of c.args.test.now)) None (code_of c.args.body.now))
     (code_of c.in_ok-held.held.statement.value) c.in_ok-held.held.size c.in_ok-held.held.loops c.room_for.result c.in_ok-held.ensures.code c.in_ok-held.ensures.loops c.if-held.false
@@ -88,7 +88,7 @@ while_decided-returns-in-None t c =
 
 pub while_decided-returns-in_ok-statement-in-Some : goal.while_decided-returns-in_ok-statement-in-Some
 while_decided-returns-in_ok-statement-in-Some t c =
-    let w = own_words c.args.globals c.args.arrays.now in
+    let w = own_words c.args.own c.args.arrays.now in
     let is = (exchanged_is c.args.more w c.args.size (Some (tree_of c.args.test.now)) None (code_of c.args.body.now)) in
     let g = grown c.args.more w c.args.size (code_of c.args.body.now) (step_cost None + test_cost (Some (tree_of c.args.test.now))) in
     let room = c.room_for.ensures (step_cost None + test_cost (Some (tree_of c.args.test.now))) c.while_cost.ensures in
@@ -119,7 +119,7 @@ for_front-returns t c =
 
 pub for_decided-returns-in-None : goal.for_decided-returns-in-None
 for_decided-returns-in-None t c =
-    let w = own_words c.args.globals c.args.arrays.now in
+    let w = own_words c.args.own c.args.arrays.now in
     body_kept c.args.more w c.args.size (code_of c.args.body.now) (for_body c.args.more (option_map tree_of c.args.test.now) (step_of c.args.step.now) (code_of c.args.body.now))
     (grown c.args.more w c.args.size (code_of c.args.body.now) (step_cost (option_map action_of c.args.step.now) + test_cost (option_map tree_of c.args.test.now))) (ap (exchanged w c.args.size (code_of c.args.body.now)) (for_body_is c.args.more (option_map tree_of c.args.test.now) c.args.step.now (code_of c.args.body.now)) ∙ exchanged_is c.args.more w c.args.size (option_map tree_of c.args.test.now) (option_map action_of c.args.step.now) (code_of c.args.body.now))
     (code_of c.in_ok-held.held.statement.value) c.in_ok-held.held.size c.in_ok-held.held.loops c.room_for.result c.in_ok-held.ensures.code c.in_ok-held.ensures.loops c.if-held.false
@@ -127,7 +127,7 @@ for_decided-returns-in-None t c =
 
 pub for_decided-returns-in_ok-statement-in-Some : goal.for_decided-returns-in_ok-statement-in-Some
 for_decided-returns-in_ok-statement-in-Some t c =
-    let w = own_words c.args.globals c.args.arrays.now in
+    let w = own_words c.args.own c.args.arrays.now in
     let is = (ap (exchanged w c.args.size (code_of c.args.body.now)) (for_body_is c.args.more (option_map tree_of c.args.test.now) c.args.step.now (code_of c.args.body.now)) ∙ exchanged_is c.args.more w c.args.size (option_map tree_of c.args.test.now) (option_map action_of c.args.step.now) (code_of c.args.body.now)) in
     let g = grown c.args.more w c.args.size (code_of c.args.body.now) (step_cost (option_map action_of c.args.step.now) + test_cost (option_map tree_of c.args.test.now)) in
     let room = c.room_for.ensures (step_cost (option_map action_of c.args.step.now) + test_cost (option_map tree_of c.args.test.now)) c.for_cost.ensures in

@@ -8,7 +8,7 @@ use Rattle.vx_unroll.proofs.Making.{AllSo}
 use Rattle.vx_unroll.proofs.unrolling.+unrolling.Given as goal
 
 abbrev pub invariant-decided_all-loop-one : goal.invariant-decided_all-loop-one
-invariant-decided_all-loop-one l = AllSo l.fn.more (own_words l.fn.globals l.fn.arrays) l.fn.size l.reached l.loops l.made.items (drop l.one-index l.fn.all) l.fn.all
+invariant-decided_all-loop-one l = AllSo l.fn.more (own_words l.fn.own l.fn.arrays) l.fn.size l.reached l.loops l.made.items (drop l.one-index l.fn.all) l.fn.all
 
 abbrev pub invariant-while_front-loop-turn : goal.invariant-while_front-loop-turn
 invariant-while_front-loop-turn l = code_onto l.front.items (turns_of (l.fn.more - l._turn) (Some (tree_of l.fn.test)) None (code_of l.fn.body)) ≡ turns_of l.fn.more (Some (tree_of l.fn.test)) None (code_of l.fn.body)

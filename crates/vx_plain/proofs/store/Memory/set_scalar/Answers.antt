@@ -1,4 +1,4 @@
-use Rattle.std.proofs.Common.{arith, w32, to_z, of_z, length, drop, ◌<◌, ◌≤◌, ◌+◌}
+use Rattle.std.proofs.Common.{arith, w32, length, drop, ◌<◌, ◌≤◌, ◌+◌}
 use Rattle.std.specs.Prelude.{slice_set}
 use Rattle.std.proofs.lemmas.Int.{to_z-of_z}
 use Rattle.vx_plain.proofs.KeptSteps.{put_is, same_store}
