@@ -10,6 +10,7 @@ use Rattle.vx_flow.specs.declared.graph.Op.{Op}
 use Rattle.vx_flow.specs.declared.graph.Op.TheVariants.{Compute, Load, Store}
 use Rattle.vx_flow.specs.declared.graph.Exit.TheVariants.{Call}
 use Rattle.vx_flow.specs.declared.graph.Block.{Block}
+use Rattle.vx_lower.specs.Seen.{Sees}
 use Rattle.vx_lower.specs.Holds.{IsBelow, Goes, same, Checks, Way, To, Into, Tested, Lands, fresh, into, Holds, then_op, ends}
 use Rattle.vx_lower.specs.Does.{Change, By, Up, Down, action_of, Changes, by, up, down, is_call, Acts, evaluate, call, assign_local, assign_global, assign_element, change_local, change_global, change_element}
 use Rattle.vx_lower.specs.Builds.{reserved, closed, Ready, Grows, Finishes, Opens, From, Puts}
@@ -21,7 +22,7 @@ use Rattle.vx_lower.proofs.Building.{grows_on, grows_reserved, grows_closed, fin
 use Rattle.vx_lower.proofs.PieceMaking.{lands_on}
 use Rattle.vx_lower.proofs.Emitting.{within_on, spare_reserved}
 
-pub acted_as : (words : List ℕ) (a b : Builder) (x y : Action) → x ≡ y → (Ready a → Acted words x a b) → Ready a → Acted words y a b
+pub acted_as : (words : Sees) (a b : Builder) (x y : Action) → x ≡ y → (Ready a → Acted words x a b) → Ready a → Acted words y a b
 acted_as words a b x y e f r = subst (λ z. Acted words z a b) e (f r)
 
 -- a value of its own, or the one that is named
@@ -36,7 +37,7 @@ landed into = refl
 
 -- the new value
 
-pub alters_by : (words : List ℕ) (operator : BinaryOperator) (e : Tree One) (from o : Operand) (dest : Option ℕ) (t : ℕ) (b0 b1 b2 : Builder) → (Ready b0 → Emits words e None o b0 b1) → (Ready b1 → Combined operator from o dest t b1 b2) → Ready b0 → Alters words (By operator e) from dest t b0 b2
+pub alters_by : (words : Sees) (operator : BinaryOperator) (e : Tree One) (from o : Operand) (dest : Option ℕ) (t : ℕ) (b0 b1 b2 : Builder) → (Ready b0 → Emits words e None o b0 b1) → (Ready b1 → Combined operator from o dest t b1 b2) → Ready b0 → Alters words (By operator e) from dest t b0 b2
 alters_by words operator e from o dest t b0 b1 b2 ex co r =
     let hx = ex r in let k = co hx.grows.ready in let v = hx.grows.values in
     record {
@@ -49,12 +50,12 @@ alters_by words operator e from o dest t b0 b1 b2 ex co r =
           record { start = s1.start; opens = s1.opens; holds = by s1.holds v (hx.below refl is) s2.holds };
     }
 
-pub alters_up : (words : List ℕ) (from : Operand) (dest : Option ℕ) (t : ℕ) (b0 b1 : Builder) → (Ready b0 → Lasts (Compute Add t from (Number (pos 1))) dest t b0 b1) → Ready b0 → Alters words Up from dest t b0 b1
+pub alters_up : (words : Sees) (from : Operand) (dest : Option ℕ) (t : ℕ) (b0 b1 : Builder) → (Ready b0 → Lasts (Compute Add t from (Number (pos 1))) dest t b0 b1) → Ready b0 → Alters words Up from dest t b0 b1
 alters_up words from dest t b0 b1 p r =
     let k = p r in
     record { grows = k.grows; below = k.below; lands = k.lands; code = λ is below B q f w. let s = k.step B q f w in record { start = s.start; opens = s.opens; holds = up s.holds } }
 
-pub alters_down : (words : List ℕ) (from : Operand) (dest : Option ℕ) (t : ℕ) (b0 b1 : Builder) → (Ready b0 → Lasts (Compute Sub t from (Number (pos 1))) dest t b0 b1) → Ready b0 → Alters words Down from dest t b0 b1
+pub alters_down : (words : Sees) (from : Operand) (dest : Option ℕ) (t : ℕ) (b0 b1 : Builder) → (Ready b0 → Lasts (Compute Sub t from (Number (pos 1))) dest t b0 b1) → Ready b0 → Alters words Down from dest t b0 b1
 alters_down words from dest t b0 b1 p r =
     let k = p r in
     record { grows = k.grows; below = k.below; lands = k.lands; code = λ is below B q f w. let s = k.step B q f w in record { start = s.start; opens = s.opens; holds = down s.holds } }
@@ -70,7 +71,7 @@ change_parts vars p (By operator e) h = (h.0, h.1)
 change_parts vars p Up h = (h, tt)
 change_parts vars p Down h = (h, tt)
 
-module _ (words : List ℕ) where
+module _ (words : Sees) where
   pub acts_evaluate : (e : Tree One) (o : Operand) (b0 b1 : Builder) → is_call e ≡ false → (Ready b0 → Emits words e None o b0 b1) → Ready b0 → Acted words (Evaluate e) b0 b1
   acts_evaluate e o b0 b1 plain ex r =
       let hx = ex r in
@@ -141,7 +142,7 @@ module _ (words : List ℕ) where
             let s2 = k.step (hi.below refl ii) B s3.start f2 s3.opens in
             let s1 = hi.code ii B s2.start (finishes_back B b1 b2 hi.grows.ready k.grows f2) s2.opens in
             let c = s2.holds in let lo = c.fresh in
-            record { start = s1.start; opens = s1.opens; holds = assign_element s1.holds le (record { place = c.place; no = c.no; c = c.c; goes = c.goes; tests = c.tests; stops = c.stops; free = c.free; sized = c.sized; above = c.above; fresh = omega arith }) lt (omega arith) s3.holds s4.holds };
+            record { start = s1.start; opens = s1.opens; holds = assign_element s1.holds le (record { place = c.place; no = c.no; c = c.c; goes = c.goes; tests = c.tests; stops = c.stops; free = c.free; above = c.above; fresh = omega arith }) lt (omega arith) s3.holds s4.holds };
       }
 
   pub changes_local : (x t : ℕ) (c : Change) (b0 b1 : Builder) → (Ready b0 → Alters words c (Held x) (Some x) t b0 b1) → Ready b0 → Acted words (action_of (InLocal x) c) b0 b1
@@ -192,5 +193,5 @@ module _ (words : List ℕ) where
             let s2 = k.step (hi.below refl ii) B s3.start f2 s3.opens in
             let s1 = hi.code ii B s2.start (finishes_back B b1 b2 hi.grows.ready k.grows f2) s2.opens in
             let d = s2.holds in let lo = d.fresh in
-            record { start = s1.start; opens = s1.opens; holds = change_element s1.holds le (record { place = d.place; no = d.no; c = d.c; goes = d.goes; tests = d.tests; stops = d.stops; free = d.free; sized = d.sized; above = d.above; fresh = omega arith }) s3.holds (omega arith) lu (omega arith) s4.holds (omega arith) (omega arith) s5.holds };
+            record { start = s1.start; opens = s1.opens; holds = change_element s1.holds le (record { place = d.place; no = d.no; c = d.c; goes = d.goes; tests = d.tests; stops = d.stops; free = d.free; above = d.above; fresh = omega arith }) s3.holds (omega arith) lu (omega arith) s4.holds (omega arith) (omega arith) s5.holds };
       }

@@ -3,7 +3,7 @@ use Rattle.std.proofs.Common.{◌≡◌, ℕ, zero, suc, ◌+◌, ℤ, pos, Bool
 use Rattle.vx_base.specs.Outcome.{Outcome, Step, On, Over, step_then, run}
 use Rattle.vx_base.specs.declared.outcome.Trap.{Trap}
 use Rattle.vx_flow.specs.Effects.{State}
-use Rattle.vx_flow.specs.Meaning.{Hop, Arrives, Calls, Leaves, Stops, Wrong, Body, Program, Frame, Active, deepest, enters, returned, waits, after_hop, body_hop, hop, next}
+use Rattle.vx_flow.specs.Meaning.{Hop, Arrives, Calls, Leaves, Stops, Wrong, Body, Program, Frame, Active, deepest, spots_for, enters_with, enters, returned, waits, after_hop, body_hop, hop, next}
 
 abbrev pub Alike : List Frame → List Frame → Type 0
 Alike [] [] = Unit {0}
@@ -35,7 +35,11 @@ module _ (P : Program) where
 
   enters_same : (n : ℕ) → SameAt n → (g : ℕ) (o : Option Body) (args : List ℤ) (s : State) (fs gs : List Frame) → Alike fs gs → Runs n (enters g o args s fs) ≡ Runs n (enters g o args s gs)
   enters_same n same g None args s fs gs a = refl
-  enters_same n same g (Some body) args s fs gs a = same _ gs a
+  enters_same n same g (Some body) args s fs gs a = by (spots_for (Some body) args s)
+    where
+      by : (o : Option (List (Option ℕ))) → Runs n (enters_with g (Some body) args s fs o) ≡ Runs n (enters_with g (Some body) args s gs o)
+      by None = refl
+      by (Some passed) = same _ gs a
 
   depth_same : (n : ℕ) (t u : Bool) (x y z : Step Active) → t ≡ u → Runs n y ≡ Runs n z → Runs n (cond t x y) ≡ Runs n (cond u x z)
   depth_same n true u x y z e h = ap (λ b. Runs n (cond b x z)) e

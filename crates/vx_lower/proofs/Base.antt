@@ -31,6 +31,9 @@ is_below a b h = lt-ltb a b h
 pub above_not_eq : (a b : ℕ) → a < b → nat_eq a b ≡ false
 above_not_eq a b h = ne_eqb a b (λ e. omega arith)
 
+pub below_not_eq : (a b : ℕ) → b < a → nat_eq a b ≡ false
+below_not_eq a b h = ne_eqb a b (λ e. omega arith)
+
 -- a flag chooses as the test that it answers
 pub flag_chooses : {A : Type 0} (b : Bool) (x y : A) → unless_zero (one_if b) x y ≡ cond b x y
 flag_chooses true x y = refl

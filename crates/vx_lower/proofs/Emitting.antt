@@ -1,6 +1,7 @@
 -- The code of expressions, put together from its pieces.
 use Rattle.std.proofs.Common.{◌≡◌, ◌⊎◌, ℕ, zero, suc, ◌+◌, ◌<◌, ◌≤◌, ℤ, pos, Bool, true, false, List, [], ◌∷◌, ◌++◌, length, Option, Some, None, refl, sym, ap, ◌∙◌, subst, inl, inr, arith, append_assoc, append-nil}
 use Rattle.std.specs.Prelude.{slice_get, slice_set}
+use Rattle.std.proofs.lemmas.List.{length-append}
 use Rattle.std.proofs.lemmas.Option.{slice_get_within}
 use Rattle.vx_base.specs.declared.arithmetic.Code.TheVariants.{Mov, ToGeneral, ToBranch}
 use Rattle.vx_base.specs.declared.arithmetic.Compare.{Compare}
@@ -10,8 +11,9 @@ use Rattle.vx_ast.specs.declared.tree.UnaryOperator.{UnaryOperator}
 use Rattle.vx_ast.specs.declared.tree.UnaryOperator.TheVariants.{Not}
 use Rattle.vx_ast.specs.declared.tree.BinaryOperator.{BinaryOperator}
 use Rattle.vx_ast.specs.declared.tree.Expression.{Expression}
-use Rattle.vx_ast.specs.Tree.{Shape, One, Row, Tree, Literal, Local, Global, Element, Unary, Binary, Both, Either, Choice, Apply, ReadInt, MoreInput, NoMore, Then}
-use Rattle.vx_ast.specs.View.{tree_of, row_in}
+use Rattle.vx_ast.specs.Tree.{Shape, One, Row, Tree, Literal, Local, Global, Element, Unary, Binary, Both, Either, Choice, Apply, ReadInt, MoreInput, NoMore, Then, Hand}
+use Rattle.vx_ast.specs.declared.tree.Argument.{Argument}
+use Rattle.vx_ast.specs.View.{tree_of, row_in, argument_before, arguments_in}
 use Rattle.vx_ast.specs.Accepted.{row_length}
 use Rattle.vx_flow.specs.declared.graph.Bank.TheVariants.{General, Branch}
 use Rattle.vx_flow.specs.declared.graph.Operand.{Operand}
@@ -21,10 +23,12 @@ use Rattle.vx_flow.specs.declared.graph.Op.TheVariants.{Compute, Load, More, Inp
 use Rattle.vx_flow.specs.declared.graph.Exit.{Exit}
 use Rattle.vx_flow.specs.declared.graph.Exit.TheVariants.{Goto, Call, Ends}
 use Rattle.vx_flow.specs.declared.graph.Block.{Block}
-use Rattle.vx_lower.specs.Holds.{IsBelow, Goes, same, on, Tests, Way, To, Into, Lands, fresh, into, Holds, literal, local, global, element, unary, binary, both, either, choice, apply, read_int, more_input, copied, tested, compared, turned, both_tested, either_tested, no_more, then, comparison_of, Tested, unary_op, then_op, ends, jump}
+use Rattle.vx_lower.specs.Seen.{Sees, size_at}
+use Rattle.vx_lower.specs.Holds.{IsBelow, Goes, same, on, Tests, Way, To, Into, Lands, fresh, into, Holds, literal, local, global, element, unary, binary, both, either, choice, apply, read_int, more_input, copied, tested, compared, turned, both_tested, either_tested, no_more, then, hand, comparison_of, Tested, unary_op, then_op, ends, jump}
 use Rattle.vx_lower.specs.Builds.{reserved, closed, filled, turned_to, with_value, Ready, Grows, Finishes, Opens, From, Puts, Branches, Guards}
-use Rattle.vx_lower.specs.Emits.{way_of, Aimed, Lasts, IsMoved, Delivers, Checked, Combined, IsWithin, AreWithin, Emits, EmitsTest, EmitsRow, EmitsFront, row_with, Spare, Asked, Truth}
+use Rattle.vx_lower.specs.Emits.{way_of, Aimed, Lasts, IsMoved, Delivers, Checked, Combined, IsWithin, Emits, EmitsTest, EmitsRow, EmitsFront, EmitsBehind, row_before, Stands, Spare, Asked, Truth}
 use Rattle.vx_lower.specs.declared.builder.Builder.{Builder}
+use Rattle.vx_lower.proofs.Rows.{before_assoc, before_none, row_more, arguments_more, within_before, length_before}
 use Rattle.vx_lower.proofs.Ties.{below_on}
 use Rattle.vx_lower.proofs.Places.{get_last, length_more, set_same, set_other, set_length}
 use Rattle.vx_lower.proofs.Building.{current_within, grows_self, grows_on, grows_value, grows_reserved, grows_closed, grows_filled, finishes_back, before_closed, before_filled, closed_stands, filled_stands, opens_closed}
@@ -147,7 +151,7 @@ asked_of compare o u c n b b1 b2 e p r =
     record { c = c; above = omega arith; grows = x.grows; spare = x.spare; late = x.late; moved = x.moved; empty = x.empty; step = x.step }
 
 -- an operand that is delivered
-holds_moved : (B : List Block) (words : List ℕ) (e : Tree One) (dest : Option ℕ) (o r : Operand) (p q : Block) (lo : ℕ) → ((m : Block) → Holds B words One e m (To (o ∷ []) m) lo) → IsMoved B dest o r p q → Holds B words One e p (way_of dest r q) lo
+holds_moved : (B : List Block) (words : Sees) (e : Tree One) (dest : Option ℕ) (o r : Operand) (p q : Block) (lo : ℕ) → ((m : Block) → Holds B words One e m (To (o ∷ []) m) lo) → IsMoved B dest o r p q → Holds B words One e p (way_of dest r q) lo
 holds_moved B words e None o r p q lo h m = subst (λ z. Holds B words One e p (To (z ∷ []) q) lo) (sym m.0) (subst (λ z. Holds B words One e p (To (o ∷ []) z) lo) m.1 (h p))
 holds_moved B words e (Some t) o r p q lo h m = copied (h p) m.1
 
@@ -167,8 +171,9 @@ within_on m n ReadInt le h = h
 within_on m n MoreInput le h = h
 within_on m n NoMore le h = h
 within_on m n (Then a rest) le h = (within_on m n a le h.0, within_on m n rest le h.1)
+within_on m n (Hand a rest) le h = within_on m n rest le h
 
-module _ (words : List ℕ) where
+module _ (words : Sees) where
   pub emits_operand : (e : Tree One) (dest : Option ℕ) (o r : Operand) (b b1 : Builder) → ((B : List Block) (m : Block) → Holds B words One e m (To (o ∷ []) m) (length b.banks)) → (IsWithin (length b.banks) e → IsBelow (length b.banks) o) → (Ready b → Delivers dest o r b b1) → Ready b → Emits words e dest r b b1
   emits_operand e dest o r b b1 h below d ready =
       let x = d ready in
@@ -204,7 +209,7 @@ module _ (words : List ℕ) where
             let s1 = x.code is B s2.start (finishes_back B b1 b2 x.grows.ready k.grows f2) s2.opens in
             let c = s2.holds in
             let lo = c.fresh in
-            record { start = s1.start; opens = s1.opens; holds = element s1.holds (record { place = c.place; no = c.no; c = c.c; goes = c.goes; tests = c.tests; stops = c.stops; free = c.free; sized = c.sized; above = c.above; fresh = omega arith }) s3.holds (lands_on (length b0.banks) (length b2.banks) (way_of dest (Held t) q) t q (up_to (length b0.banks) (length b1.banks) (length b2.banks) v1 v2) (z.lands q)) };
+            record { start = s1.start; opens = s1.opens; holds = element s1.holds (record { place = c.place; no = c.no; c = c.c; goes = c.goes; tests = c.tests; stops = c.stops; free = c.free; above = c.above; fresh = omega arith }) s3.holds (lands_on (length b0.banks) (length b2.banks) (way_of dest (Held t) q) t q (up_to (length b0.banks) (length b1.banks) (length b2.banks) v1 v2) (z.lands q)) };
       }
 
   pub emits_unary : (operator : UnaryOperator) (t : ℕ) (dest : Option ℕ) (a : Tree One) (o : Operand) (b0 b1 b2 : Builder) → (Ready b0 → Emits words a None o b0 b1) → (Ready b1 → Lasts (unary_op operator t o) dest t b1 b2) → Ready b0 → Emits words (Unary operator a) dest (Held t) b0 b2
@@ -501,61 +506,68 @@ module _ (words : List ℕ) where
       }
 
   -- the front of a row: whatever row comes behind it makes a whole one
-  pub no_front : (b : Builder) → Ready b → EmitsFront words [] [] b b
-  no_front b r = record { grows = grows_self b r; count = refl; code = λ is B m f o. record { start = m; opens = o; holds = λ rest ros q h. h } }
+  pub no_front : (b : Builder) → Ready b → EmitsFront words NoMore [] b b
+  no_front b r = record { grows = grows_self b r; many = omega arith; code = λ is B m f o. record { start = m; opens = o; holds = λ rest ros q h. h } }
 
-  pub more_front : (xs : List Expression) (e : Expression) (os os2 : List Operand) (o : Operand) (b0 b1 b2 : Builder) → (Ready b0 → EmitsFront words xs os b0 b1) → (Ready b1 → Emits words (tree_of e) None o b1 b2) → os2 ≡ os ++ o ∷ [] → Ready b0 → EmitsFront words (xs ++ e ∷ []) os2 b0 b2
-  more_front xs e os os2 o b0 b1 b2 row ex is r =
+  -- one number
+  pub number_front : (e : Tree One) (o : Operand) (b0 b1 : Builder) → (Ready b0 → Emits words e None o b0 b1) → Ready b0 → EmitsFront words (Then e NoMore) (o ∷ []) b0 b1
+  number_front e o b0 b1 ex r =
+      let hx = ex r in
+      record {
+        grows = hx.grows;
+        many = let a : row_length (Then e NoMore) ≡ 1 = refl in let b : length (o ∷ []) ≡ 1 = refl in omega arith;
+        code = λ within B m f w. let s = hx.code within.0 B m f w in record { start = s.start; opens = s.opens; holds = λ rest ros q h. then s.holds hx.grows.values (hx.below refl within.0) h };
+      }
+
+  -- one array
+  pub array_front : (a v : ℕ) (size : Operand) (b0 b1 : Builder) → size ≡ size_at words a → (Ready b0 → Stands words a v b0 b1) → Ready b0 → EmitsFront words (Hand a NoMore) (Held v ∷ size ∷ []) b0 b1
+  array_front a v size b0 b1 e st r =
+      let hx = st r in
+      record {
+        grows = hx.grows;
+        many = let x : row_length (Hand a NoMore) ≡ 1 = refl in let y : length (Held v ∷ size ∷ []) ≡ 2 = refl in omega arith;
+        code = λ within B m f w. let s = hx.step B m f w in record { start = s.start; opens = s.opens; holds = λ rest ros q h. subst (λ z. Holds B words Row (Hand a rest) s.start (To (Held v ∷ z ∷ ros) q) (length b0.banks)) (sym e) (hand s.holds hx.grows.values h) };
+      }
+
+  -- more behind it
+  pub front_on : (front more : Tree Row) (os own os2 : List Operand) (b0 b1 b2 : Builder) → (Ready b0 → EmitsFront words front os b0 b1) → (Ready b1 → EmitsFront words more own b1 b2) → os2 ≡ os ++ own → Ready b0 → EmitsFront words (row_before front more) os2 b0 b2
+  front_on front more os own os2 b0 b1 b2 row ex is r =
       let hr = row r in let hx = ex hr.grows.ready in
       record {
         grows = grows_on b0 b1 b2 r hr.grows hx.grows;
-        count = let k = hr.count in let n = length_more os o in let m = length_more xs e in ap length is ∙ omega arith;
+        many = let k = hr.many in let l = hx.many in let n = length_before front more in let m = length-append os own in let e = ap length is in omega arith;
         code = λ within B m f w.
-            let w2 = within_both (length b0.banks) xs within in
-            let ie = within_on (length b0.banks) (length b1.banks) (tree_of e) hr.grows.values w2.1 in
-            let s2 = hx.code ie B m f w in
+            let w2 = within_before (length b0.banks) front more within in
+            let s2 = hx.code (within_on (length b0.banks) (length b1.banks) more hr.grows.values w2.1) B m f w in
             let s1 = hr.code w2.0 B s2.start (finishes_back B b1 b2 hr.grows.ready hx.grows f) s2.opens in
-            record { start = s1.start; opens = s1.opens; holds = λ rest ros q h. front_is B rest ros q s1.start (s1.holds (Then (tree_of e) rest) (o ∷ ros) q (then s2.holds hx.grows.values (hx.below refl ie) h)) };
+            record { start = s1.start; opens = s1.opens; holds = λ rest ros q h. front_is B rest ros q s1.start (s1.holds (row_before more rest) (own ++ ros) q (s2.holds rest ros q h)) };
       }
     where
-      within_both : (n : ℕ) (xs : List Expression) → AreWithin n (xs ++ e ∷ []) → AreWithin n xs × IsWithin n (tree_of e)
-      within_both n [] h = (tt, h.0)
-      within_both n (x ∷ xs) h = let w = within_both n xs h.1 in ((h.0, w.0), w.1)
-
-      rows : (xs : List Expression) (rest : Tree Row) → row_with xs (Then (tree_of e) rest) ≡ row_with (xs ++ e ∷ []) rest
-      rows [] rest = refl
-      rows (x ∷ xs) rest = ap (Then (tree_of x)) (rows xs rest)
-
-      front_is : (B : List Block) (rest : Tree Row) (ros : List Operand) (q p : Block) → Holds B words Row (row_with xs (Then (tree_of e) rest)) p (To (os ++ (o ∷ ros)) q) (length b0.banks) → Holds B words Row (row_with (xs ++ e ∷ []) rest) p (To (os2 ++ ros) q) (length b0.banks)
+      front_is : (B : List Block) (rest : Tree Row) (ros : List Operand) (q p : Block) → Holds B words Row (row_before front (row_before more rest)) p (To (os ++ (own ++ ros)) q) (length b0.banks) → Holds B words Row (row_before (row_before front more) rest) p (To (os2 ++ ros) q) (length b0.banks)
       front_is B rest ros q p h =
-          subst (λ z. Holds B words Row z p (To (os2 ++ ros) q) (length b0.banks)) (rows xs rest)
-          (subst (λ z. Holds B words Row (row_with xs (Then (tree_of e) rest)) p (To z q) (length b0.banks)) (sym (append_assoc os (o ∷ []) ros) ∙ ap (λ z. z ++ ros) (sym is)) h)
+          subst (λ z. Holds B words Row z p (To (os2 ++ ros) q) (length b0.banks)) (before_assoc front more rest)
+          (subst (λ z. Holds B words Row (row_before front (row_before more rest)) p (To z q) (length b0.banks)) (sym (append_assoc os own ros) ∙ ap (λ z. z ++ ros) (sym is)) h)
 
-  pub whole_row : (xs : List Expression) (os : List Operand) (b0 b1 : Builder) → (Ready b0 → EmitsFront words xs os b0 b1) → Ready b0 → EmitsRow words (row_in xs) os b0 b1
-  whole_row xs os b0 b1 front r =
+  pub more_front : (xs : List Expression) (e : Expression) (os os2 : List Operand) (o : Operand) (b0 b1 b2 : Builder) → (Ready b0 → EmitsFront words (row_in xs) os b0 b1) → (Ready b1 → Emits words (tree_of e) None o b1 b2) → os2 ≡ os ++ o ∷ [] → Ready b0 → EmitsFront words (row_in (xs ++ e ∷ [])) os2 b0 b2
+  more_front xs e os os2 o b0 b1 b2 row ex is r = subst (λ z. EmitsFront words z os2 b0 b2) (row_more xs e) (front_on (row_in xs) (Then (tree_of e) NoMore) os (o ∷ []) os2 b0 b1 b2 row (number_front (tree_of e) o b1 b2 ex) is r)
+
+  pub more_arguments : (xs : List Argument) (x : Argument) (os os2 : List Operand) (b0 b1 b2 : Builder) → (Ready b0 → EmitsFront words (arguments_in xs) os b0 b1) → (Ready b1 → EmitsBehind words (argument_before x NoMore) os os2 b1 b2) → Ready b0 → EmitsFront words (arguments_in (xs ++ x ∷ [])) os2 b0 b2
+  more_arguments xs x os os2 b0 b1 b2 row ex r =
+      let hr = row r in
+      let y = ex hr.grows.ready in
+      subst (λ z. EmitsFront words z os2 b0 b2) (arguments_more xs x) (front_on (arguments_in xs) (argument_before x NoMore) os y.own os2 b0 b1 b2 (λ s. hr) (λ s. y.front) y.is r)
+
+  pub whole_row : (row : Tree Row) (os : List Operand) (b0 b1 : Builder) → (Ready b0 → EmitsFront words row os b0 b1) → Ready b0 → EmitsRow words row os b0 b1
+  whole_row row os b0 b1 front r =
       let hr = front r in
       record {
         grows = hr.grows;
-        count = hr.count ∙ row_count xs;
-        code = λ is B q f w.
-            let s = hr.code (all_within (length b0.banks) xs is) B q f w in
-            record { start = s.start; opens = s.opens; holds = whole B q s.start (s.holds NoMore [] q no_more) };
+        many = hr.many;
+        code = λ is B q f w. let s = hr.code is B q f w in record { start = s.start; opens = s.opens; holds = whole B q s.start (s.holds NoMore [] q no_more) };
       }
     where
-      row_count : (xs : List Expression) → length xs ≡ row_length (row_in xs)
-      row_count [] = refl
-      row_count (x ∷ xs) = ap suc (row_count xs)
-
-      all_within : (n : ℕ) (xs : List Expression) → IsWithin n (row_in xs) → AreWithin n xs
-      all_within n [] h = tt
-      all_within n (x ∷ xs) h = (h.0, all_within n xs h.1)
-
-      rows : (xs : List Expression) → row_with xs NoMore ≡ row_in xs
-      rows [] = refl
-      rows (x ∷ xs) = ap (Then (tree_of x)) (rows xs)
-
-      whole : (B : List Block) (q p : Block) → Holds B words Row (row_with xs NoMore) p (To (os ++ []) q) (length b0.banks) → Holds B words Row (row_in xs) p (To os q) (length b0.banks)
-      whole B q p h = subst (λ z. Holds B words Row z p (To os q) (length b0.banks)) (rows xs) (subst (λ z. Holds B words Row (row_with xs NoMore) p (To z q) (length b0.banks)) (append-nil os) h)
+      whole : (B : List Block) (q p : Block) → Holds B words Row (row_before row NoMore) p (To (os ++ []) q) (length b0.banks) → Holds B words Row row p (To os q) (length b0.banks)
+      whole B q p h = subst (λ z. Holds B words Row z p (To os q) (length b0.banks)) (before_none row) (subst (λ z. Holds B words Row (row_before row NoMore) p (To z q) (length b0.banks)) (append-nil os) h)
 
   pub emits_call : (f t n : ℕ) (dest : Option ℕ) (row : Tree Row) (os : List Operand) (b0 b1 b2 b3 b4 : Builder) → (Ready b0 → EmitsRow words row os b0 b1) → Aimed dest t b1 b2 → (n ≡ length b2.blocks) × (b3 ≡ reserved b2) → b4 ≡ closed b3 (Call f os (Some t) n) n → Ready b0 → Emits words (Apply f row) dest (Held t) b0 b4
   emits_call f t n dest row os b0 b1 b2 b3 b4 args ai en e4 r =
@@ -583,8 +595,8 @@ module _ (words : List ℕ) where
             record { start = s.start; opens = s.opens; holds = apply s.holds (same refl) o4.is (lands_on (length b0.banks) (length b1.banks) (way_of dest (Held t) q) t q v1 (a.lands q)) };
       }
 
-pub emits_as : (words : List ℕ) (dest : Option ℕ) (o : Operand) (a b : Builder) (x y : Tree One) → x ≡ y → (Ready a → Emits words x dest o a b) → Ready a → Emits words y dest o a b
+pub emits_as : (words : Sees) (dest : Option ℕ) (o : Operand) (a b : Builder) (x y : Tree One) → x ≡ y → (Ready a → Emits words x dest o a b) → Ready a → Emits words y dest o a b
 emits_as words dest o a b x y e f r = subst (λ z. Emits words z dest o a b) e (f r)
 
-pub tests_as : (words : List ℕ) (n : ℕ) (a b : Builder) (x y : Tree One) → x ≡ y → (Ready a → EmitsTest words x n a b) → Ready a → EmitsTest words y n a b
+pub tests_as : (words : Sees) (n : ℕ) (a b : Builder) (x y : Tree One) → x ≡ y → (Ready a → EmitsTest words x n a b) → Ready a → EmitsTest words y n a b
 tests_as words n a b x y e f r = subst (λ z. EmitsTest words z n a b) e (f r)

@@ -13,11 +13,8 @@ use Rattle.vx_base.specs.Arithmetic.{IsNumber}
 use Rattle.vx_ast.specs.declared.tree.GlobalVariable.{GlobalVariable}
 use Rattle.vx_ast.specs.declared.tree.GlobalVariable.TheVariants.{Scalar as ScalarGlobal, Array as ArrayGlobal}
 use Rattle.vx_ast.specs.Tree.{Function, Program}
-use Rattle.vx_ast.specs.Accepted.{Scope, Over, over, or_else, limit_of, is_none, at_most, is_in, below, is_scalar, is_array, is_accepted, is_suited, is_main, suits_function, suits_global, suits_code, in_force_at_start, are_all_from, scalars_of, arrays_of, names_array, global_words, function_nodes, formats_of}
-use Rattle.vx_flow.specs.Meaning.{at_entry}
-use Rattle.vx_flow.specs.Effects.{Content}
-use Rattle.vx_lower.specs.Lowered.{numbers_from, words_seen}
-use Rattle.vx_lower.proofs.Base.{and_one, and_two, same_eq, above_not_eq}
+use Rattle.vx_ast.specs.Accepted.{Scope, Over, over, or_else, limit_of, is_none, at_most, is_in, below, is_scalar, is_array, is_accepted, is_suited, is_main, suits_function, suits_global, suits_code, in_force_at_start, are_all_from, scalars_of, arrays_of, names_array, numbers_taken, arrays_taken, global_words, function_nodes, formats_of}
+use Rattle.vx_lower.proofs.Base.{and_one, and_two}
 use Rattle.vx_lower.proofs.Ties.{InForce}
 use Rattle.vx_lower.proofs.Values.{zero_fits}
 
@@ -97,14 +94,23 @@ module _ (p : Program) (accepted : is_accepted p ≡ true) where
   pub function_suits : (i : ℕ) (f : Function) → slice_get p.functions i ≡ Some f → suits_function p f ≡ true
   function_suits i f at = all_at (suits_function p) p.functions i f (and_one (list_all (suits_function p) p.functions) (list_all suits_global p.globals) both_all) at
 
-  pub body_suits : (i : ℕ) (f : Function) → slice_get p.functions i ≡ Some f → suits_code p f.gives false (in_force_at_start f) f.body ≡ true
-  body_suits i f at =
-      let all = function_suits i f at in
-      and_one (suits_code p f.gives false (in_force_at_start f) f.body) (at_most f.parameters f.scalars)
-      (and_one (suits_code p f.gives false (in_force_at_start f) f.body && at_most f.parameters f.scalars) (are_all_from f.parameters (f.scalars - f.parameters) (scalars_of f.body) && (are_all_from (length p.globals) (length f.arrays) (arrays_of f.body) && list_all (nat_lt 0) f.arrays)) all)
+  abbrev whole : Function → Bool
+  whole f = suits_code p f.gives false (in_force_at_start p f) f.body
+
+  abbrev counts : Function → Bool
+  counts f = at_most f.parameters f.scalars && nat_eq f.parameters (numbers_taken f)
+
+  abbrev items : Function → Bool
+  items f = are_all_from f.parameters (f.scalars - f.parameters) (scalars_of f.body) && (are_all_from (length p.globals + arrays_taken f) (length f.arrays) (arrays_of f.body) && list_all (nat_lt 0) f.arrays)
+
+  pub body_suits : (i : ℕ) (f : Function) → slice_get p.functions i ≡ Some f → suits_code p f.gives false (in_force_at_start p f) f.body ≡ true
+  body_suits i f at = and_one (whole f) (counts f) (and_one (whole f && counts f) (items f) (function_suits i f at))
+
+  pub numbers_are : (i : ℕ) (f : Function) → slice_get p.functions i ≡ Some f → f.parameters ≡ numbers_taken f
+  numbers_are i f at = eqb-true f.parameters (numbers_taken f) (and_two (at_most f.parameters f.scalars) (nat_eq f.parameters (numbers_taken f)) (and_two (whole f) (counts f) (and_one (whole f && counts f) (items f) (function_suits i f at))))
 
   both_limits : (over 6 8192 (map (λ f. sum f.arrays) p.functions) ≡ None) × (over 7 262144 (sum (map global_words p.globals) ∷ []) ≡ None)
-  both_limits = fourth_and_fifth (over 3 256 (length p.functions ∷ [])) (over 4 8 (map (λ f. f.parameters) p.functions)) (over 5 4000 (map function_nodes p.functions)) (over 6 8192 (map (λ f. sum f.arrays) p.functions)) (over 7 262144 (sum (map global_words p.globals) ∷ [])) (over 8 4096 (flat_map (λ f. map (λ format. length format) (formats_of f.body)) p.functions)) limited
+  both_limits = fourth_and_fifth (over 3 256 (length p.functions ∷ [])) (over 4 8 (map (λ f. length f.takes) p.functions)) (over 5 4000 (map function_nodes p.functions)) (over 6 8192 (map (λ f. sum f.arrays) p.functions)) (over 7 262144 (sum (map global_words p.globals) ∷ [])) (over 8 4096 (flat_map (λ f. map (λ format. length format) (formats_of f.body)) p.functions)) limited
 
   pub array_limit : (i : ℕ) (f : Function) → slice_get p.functions i ≡ Some f → sum f.arrays ≤ 8192
   array_limit i f at = not_over 6 8192 (map (λ f. sum f.arrays) p.functions) i (sum f.arrays) both_limits.0 (slice_get-map (λ f. sum f.arrays) p.functions i ∙ ap (option_map (λ f. sum f.arrays)) at)
@@ -112,24 +118,20 @@ module _ (p : Program) (accepted : is_accepted p ≡ true) where
   pub global_limit : sum (map global_words p.globals) ≤ 262144
   global_limit = not_over 7 262144 (sum (map global_words p.globals) ∷ []) 0 (sum (map global_words p.globals)) both_limits.1 refl
 
-  pub small_words : (i : ℕ) (f : Function) → slice_get p.functions i ≡ Some f → (a : ℕ) → slice_index_or (words_seen p f) a 0 < 2 ^ 29
-  small_words i f at a =
-      let x = array_limit i f at in
-      let y = global_limit in
-      let h = word_of_both (map global_words p.globals) f.arrays a 262144 (λ j. let s = summed (map global_words p.globals) j in omega arith) (λ j. let s = summed f.arrays j in omega arith) in
-      omega arith
+  pub few_own : (i : ℕ) (f : Function) → slice_get p.functions i ≡ Some f → (k : ℕ) → slice_index_or f.arrays k 0 ≤ 262144
+  few_own i f at k = let x = array_limit i f at in let s = summed f.arrays k in omega arith
 
-scalar_at : (gs : List GlobalVariable) (own : List ℕ) (a : ℕ) → is_scalar (slice_get gs a) ≡ true → (slice_index_or (map global_words gs ++ own) a 0 ≡ 1) × (a < length gs)
-scalar_at [] own a e = absurd (cc)
-scalar_at (ScalarGlobal z ∷ gs) own zero e = (refl, omega arith)
-scalar_at (ArrayGlobal n ∷ gs) own zero e = absurd (cc)
-scalar_at (g ∷ gs) own (suc a) e = let h = scalar_at gs own a e in (h.0, omega (arith, h.1))
+  pub few_global : (k : ℕ) → slice_index_or (map global_words p.globals) k 0 ≤ 262144
+  few_global k = let y = global_limit in let s = summed (map global_words p.globals) k in omega arith
 
-pub scalar_word : (p : Program) (f : Function) (a : ℕ) → is_scalar (slice_get p.globals a) ≡ true → slice_index_or (words_seen p f) a 0 ≡ 1
-scalar_word p f a e = (scalar_at p.globals f.arrays a e).0
+pub few_both : (xs ys : List ℕ) → ((i : ℕ) → slice_index_or xs i 0 ≤ 262144) → ((i : ℕ) → slice_index_or ys i 0 ≤ 262144) → (a : ℕ) → slice_index_or (xs ++ ys) a 0 ≤ 262144
+few_both xs ys f g a = word_of_both xs ys a 262144 f g
 
-pub scalar_global : (p : Program) (f : Function) (a : ℕ) → is_scalar (slice_get p.globals a) ≡ true → a < length p.globals
-scalar_global p f a e = (scalar_at p.globals f.arrays a e).1
+pub scalar_at : (gs : List GlobalVariable) (a : ℕ) → is_scalar (slice_get gs a) ≡ true → (slice_index_or (map global_words gs) a 0 ≡ 1) × (a < length gs)
+scalar_at [] a e = absurd (cc)
+scalar_at (ScalarGlobal z ∷ gs) zero e = (refl, omega arith)
+scalar_at (ArrayGlobal n ∷ gs) zero e = absurd (cc)
+scalar_at (g ∷ gs) (suc a) e = let h = scalar_at gs a e in (h.0, omega (arith, h.1))
 
 pub named_in_force : (p : Program) (sc : Scope) (a : ℕ) → names_array p sc a ≡ true → InForce (length p.globals) sc a
 named_in_force p sc a e = by (nat_lt a (length p.globals)) refl
@@ -145,16 +147,6 @@ in_below (suc n) x i = by (λ j. in_below n x j) (nat_eq x n) refl
     by : (is_in x (below n) ≡ true → x < n) → (t : Bool) → nat_eq x n ≡ t → x < suc n
     by f true e = let q = eqb-true x n e in omega arith
     by f false e = let h = f (sym (ap (λ t. t || is_in x (below n)) e) ∙ i) in omega arith
-
--- parameters and their arguments
-pub entry_at : (first n x : ℕ) (args : List ℤ) → length args ≡ n → x < n → at_entry (numbers_from first n) args (first + x) ≡ Some (slice_index_or args x (pos 0))
-entry_at first zero x args e h = absurd (omega arith)
-entry_at first (suc n) x [] e h = absurd (omega arith)
-entry_at first (suc n) zero (a ∷ args) e h = let q : first + 0 ≡ first = omega arith in ap (λ v. cond (nat_eq v first) (Some a) (at_entry (numbers_from (suc first) n) args v)) q ∙ ap (λ b. cond b (Some a) (at_entry (numbers_from (suc first) n) args first)) (same_eq first)
-entry_at first (suc n) (suc x) (a ∷ args) e h =
-    let q : first + suc x ≡ suc first + x = omega arith in
-    let other : nat_eq (suc first + x) first ≡ false = grind arith in
-    ap (λ v. cond (nat_eq v first) (Some a) (at_entry (numbers_from (suc first) n) args v)) q ∙ ap (λ b. cond b (Some a) (at_entry (numbers_from (suc first) n) args (suc first + x))) other ∙ entry_at (suc first) n x args (omega arith) (omega arith)
 
 -- lists
 

@@ -10,16 +10,19 @@ use Rattle.vx_flow.specs.declared.graph.Bank.TheVariants.{General}
 use Rattle.vx_flow.specs.declared.graph.Operand.{Operand}
 use Rattle.vx_flow.specs.declared.graph.Operand.TheVariants.{Held, Number, Stack}
 use Rattle.vx_flow.specs.declared.graph.Op.{Op}
-use Rattle.vx_flow.specs.declared.graph.Op.TheVariants.{Compute, Select, Place, Load, Store, More, Input, Text, Decimal, Across}
+use Rattle.vx_flow.specs.declared.graph.Op.TheVariants.{Compute, Select, Place, Load, Store, More, Input, Text, Decimal, Across, Base, PlaceIn}
 use Rattle.vx_flow.specs.declared.graph.Exit.{Exit}
 use Rattle.vx_flow.specs.declared.graph.Exit.TheVariants.{Goto, Split, Call, Return, Ends}
 use Rattle.vx_flow.specs.declared.graph.Block.{Block}
 use Rattle.vx_flow.specs.Effects.{IsIn}
-use Rattle.vx_flow.specs.Sound.{targets_of}
+use Rattle.vx_flow.specs.Sound.{MakesPlace, targets_of}
 use Rattle.vx_flow.proofs.Members.{in_left, in_front_or_last, in_last}
+use Rattle.vx_lower.specs.Seen.{Sees}
 use Rattle.vx_lower.specs.Builds.{reserved, closed, filled, turned_to, with_value, with_op, Ready}
 use Rattle.vx_lower.specs.Named.{Known}
-use Rattle.vx_lower.specs.Fits.{Role, Scalar, Test, PlaceOf, bank_of_role, HasRole, OperandFits, PlaceFits, RightFits, role_written, OpFits, Has, opened, finished, TargetFits, ResultFits, AllFit, ExitFits, split_targets, Fits}
+use Rattle.vx_ast.specs.declared.tree.Takes.{Takes as Kind}
+use Rattle.vx_ast.specs.declared.tree.Takes.TheVariants.{Number as TakesNumber, Array as TakesArray}
+use Rattle.vx_lower.specs.Fits.{Role, Scalar, Test, PlaceOf, Stand, bank_of_role, HasRole, OperandFits, PlaceFits, RightFits, role_written, OpFits, Has, opened, finished, TargetFits, ResultFits, AllFit, StandFits, ArgumentsFit, ExitFits, split_targets, IsHandedBase, MakesStand, Fits}
 use Rattle.vx_lower.specs.declared.builder.Builder.{Builder}
 use Rattle.vx_lower.proofs.Places.{get_front, get_last, length_more, set_same, set_length}
 
@@ -87,10 +90,10 @@ operand_on roles later kept (Held v) h = kept v Scalar h
 operand_on roles later kept (Number n) h = h
 operand_on roles later kept Stack h = h
 
-pub place_on : (roles later : List Role) → Kept roles later → (a : ℕ) (o : Operand) → PlaceFits roles a o → PlaceFits later a o
-place_on roles later kept a (Held v) h = kept v (PlaceOf a) h
-place_on roles later kept a (Number n) h = h
-place_on roles later kept a Stack h = h
+pub place_on : {words : Sees} (k : Known words) (roles later : List Role) → Kept roles later → (a : ℕ) (o : Operand) → PlaceFits k roles a o → PlaceFits k later a o
+place_on k roles later kept a (Held v) h = kept v (PlaceOf a) h
+place_on k roles later kept a (Number n) h = h
+place_on k roles later kept a Stack h = h
 
 pub right_on : (roles later : List Role) → Kept roles later → (code : Code) (o : Operand) → RightFits roles code o → RightFits later code o
 right_on roles later kept Mov o h = h
@@ -99,30 +102,46 @@ right_on roles later kept code o h = operand_on roles later kept o h
 pub all_on : (roles later : List Role) → Kept roles later → (os : List Operand) → AllFit roles os → AllFit later os
 all_on roles later kept os h o m = operand_on roles later kept o (h o m)
 
+stand_on : (roles later : List Role) → Kept roles later → (o : Operand) → StandFits roles o → StandFits later o
+stand_on roles later kept (Held v) h = kept v Stand h
+stand_on roles later kept (Number n) h = h
+stand_on roles later kept Stack h = h
+
+pub arguments_on : (roles later : List Role) → Kept roles later → (takes : List Kind) (os : List Operand) → ArgumentsFit roles takes os → ArgumentsFit later takes os
+arguments_on roles later kept [] [] h = h
+arguments_on roles later kept [] (o ∷ os) h = h
+arguments_on roles later kept (TakesNumber ∷ takes) [] h = h
+arguments_on roles later kept (TakesNumber ∷ takes) (o ∷ os) h = (operand_on roles later kept o h.0, arguments_on roles later kept takes os h.1)
+arguments_on roles later kept (TakesArray ∷ takes) [] h = h
+arguments_on roles later kept (TakesArray ∷ takes) (o ∷ []) h = h
+arguments_on roles later kept (TakesArray ∷ takes) (b ∷ o ∷ os) h = (stand_on roles later kept b h.0, operand_on roles later kept o h.1, arguments_on roles later kept takes os h.2)
+
 result_on : (roles later : List Role) → Kept roles later → (result : Option ℕ) → ResultFits roles result → ResultFits later result
 result_on roles later kept None h = h
 result_on roles later kept (Some v) h = kept v Scalar h
 
-module _ (k : Known) (texts : ℕ) where
+module _ {words : Sees} (k : Known words) (texts : ℕ) where
   pub op_on : (roles later : List Role) → Kept roles later → (op : Op) → OpFits k texts roles op → OpFits k texts later op
   op_on roles later kept (Compute code t a b) h = (kept t (role_written code) h.0, operand_on roles later kept a h.1, right_on roles later kept code b h.2)
   op_on roles later kept (Select t test a b) h = h
-  op_on roles later kept (Place t a i) h = (kept t (PlaceOf a) h.0, h.1, operand_on roles later kept i h.2)
-  op_on roles later kept (Load t a p dismissible) h = (kept t Scalar h.0, h.1, place_on roles later kept a p h.2, h.3)
-  op_on roles later kept (Store a p o) h = (h.0, place_on roles later kept a p h.1, operand_on roles later kept o h.2)
+  op_on roles later kept (Place t a i) h = (kept t (PlaceOf a) h.0, h.1, operand_on roles later kept i h.2, h.3)
+  op_on roles later kept (Load t a p dismissible) h = (kept t Scalar h.0, h.1, place_on k roles later kept a p h.2, h.3)
+  op_on roles later kept (Store a p o) h = (h.0, place_on k roles later kept a p h.1, operand_on roles later kept o h.2)
   op_on roles later kept (More t) h = kept t Scalar h
   op_on roles later kept (Input t) h = kept t Scalar h
   op_on roles later kept (Text n) h = h
   op_on roles later kept (Decimal o) h = operand_on roles later kept o h
   op_on roles later kept (Across t v) h = h
+  op_on roles later kept (Base t a x) h = (kept t Stand h.0, h.1, h.2, h.3)
+  op_on roles later kept (PlaceIn t a u i) h = (kept t (PlaceOf a) h.0, h.1, h.2, operand_on roles later kept i h.3)
 
 target_on : (m n c : ℕ) → m ≤ n → TargetFits m c → TargetFits n c
 target_on m n c le h = let l = h.1 in (h.0, omega arith)
 
-pub exit_on : (k : Known) (roles later : List Role) (m n : ℕ) → Kept roles later → m ≤ n → (exit : Exit) → ExitFits k roles m exit → ExitFits k later n exit
+pub exit_on : {words : Sees} (k : Known words) (roles later : List Role) (m n : ℕ) → Kept roles later → m ≤ n → (exit : Exit) → ExitFits k roles m exit → ExitFits k later n exit
 exit_on k roles later m n kept le (Goto c) h = target_on m n c le h
 exit_on k roles later m n kept le (Split test y z) h = (kept test Test h.0, target_on m n y le h.1, target_on m n z le h.2, h.3)
-exit_on k roles later m n kept le (Call f os result c) h = (h.0, all_on roles later kept os h.1, result_on roles later kept result h.2, target_on m n c le h.3)
+exit_on k roles later m n kept le (Call f os result c) h = ((h.0.0, h.0.1, arguments_on roles later kept h.0.0 os h.0.2), result_on roles later kept result h.1, target_on m n c le h.2)
 exit_on k roles later m n kept le (Return o) h = operand_on roles later kept o h
 exit_on k roles later m n kept le (Ends trap) h = h
 
@@ -139,27 +158,29 @@ one_target : (n c d : ℕ) → TargetFits n d → IsIn c (d ∷ []) → TargetFi
 one_target n c d h (inl e) = subst (TargetFits n) (sym e) h
 one_target n c d h (inr z) = absurd z
 
-pub target_fits : (k : Known) (roles : List Role) (n : ℕ) (exit : Exit) (c : ℕ) → ExitFits k roles n exit → IsIn c (targets_of exit) → TargetFits n c
+pub target_fits : {words : Sees} (k : Known words) (roles : List Role) (n : ℕ) (exit : Exit) (c : ℕ) → ExitFits k roles n exit → IsIn c (targets_of exit) → TargetFits n c
 target_fits k roles n (Goto d) c h m = one_target n c d h m
 target_fits k roles n (Split test y z) c h (inl e) = subst (TargetFits n) (sym e) h.1
 target_fits k roles n (Split test y z) c h (inr m) = one_target n c z h.2 m
-target_fits k roles n (Call f os result d) c h m = one_target n c d h.3 m
+target_fits k roles n (Call f os result d) c h m = one_target n c d h.2 m
 target_fits k roles n (Return o) c h m = absurd m
 target_fits k roles n (Ends trap) c h m = absurd m
 
 -- the steps
 
-module _ (k : Known) (texts : ℕ) where
+module _ {words : Sees} (k : Known words) (texts : ℕ) where
   pub fits_reserved : (roles : List Role) (b : Builder) → Fits k texts roles b → Fits k texts roles (reserved b)
   fits_reserved roles b f = let l = length_more b.blocks None in let s = f.some in record {
     banks = f.banks;
     scalars = f.scalars;
+    handed = f.handed;
     some = omega arith;
     ops = λ op h. f.ops op (has_waiting b.blocks b.ops op h);
     exits = λ i x e. exit_on k roles roles (length b.blocks) (length (reserved b).blocks) (λ v role h. h) (omega arith) x.exit (f.exits i x (get_waiting b.blocks i x e));
     traps = λ i x e. f.traps i x (get_waiting b.blocks i x e);
     single = λ i j x y c ei ej. f.single i j x y c (get_waiting b.blocks i x ei) (get_waiting b.blocks j y ej);
-    made = λ v a h. let m = f.made v a h in (m.0, has_front b.blocks b.ops (Place v a m.0) m.1);
+    made = λ v a h. let m = f.made v a h in (m.0, m.1, has_front b.blocks b.ops m.0 m.2);
+    stands = λ v h. elim (f.stands v h) [ inl w ↦ inl w | inr m ↦ inr (m.0, m.1, has_front b.blocks b.ops m.0 m.2) ];
   }
 
   -- where a block that is finished leads
@@ -172,12 +193,14 @@ module _ (k : Known) (texts : ℕ) where
   fits_filled roles b p z f waits ops exit traps leads = let l = set_length b.blocks p (Some z) in let s = f.some in record {
     banks = f.banks;
     scalars = f.scalars;
+    handed = f.handed;
     some = omega arith;
     ops = λ op h. elim (has_set b.blocks p z b.ops op h) [ inl m ↦ ops op m | inr w ↦ f.ops op w ];
     exits = λ i x e. subst (λ n. ExitFits k roles n x.exit) (sym l) (elim (get_set b.blocks p z i x e) [ inl w ↦ subst (λ y. ExitFits k roles (length b.blocks) y.exit) w.1 exit | inr w ↦ f.exits i x w ]);
     traps = λ i x e. elim (get_set b.blocks p z i x e) [ inl w ↦ subst (λ y. (trap : Trap) → y.exit ≡ Ends trap → y.ops ≡ []) w.1 traps | inr w ↦ f.traps i x w ];
     single = λ i j x y c ei ej. one i j x y c (get_set b.blocks p z i x ei) (get_set b.blocks p z j y ej);
-    made = λ v a h. let m = f.made v a h in (m.0, has_kept b.blocks p z b.ops (Place v a m.0) waits m.1);
+    made = λ v a h. let m = f.made v a h in (m.0, m.1, has_kept b.blocks p z b.ops m.0 waits m.2);
+    stands = λ v h. elim (f.stands v h) [ inl w ↦ inl w | inr m ↦ inr (m.0, m.1, has_kept b.blocks p z b.ops m.0 waits m.2) ];
   }
     where
       one : (i j : ℕ) (x y : Block) (c : ℕ) → ((i ≡ p) × (z ≡ x)) ⊎ (slice_get b.blocks i ≡ Some (Some x)) → ((j ≡ p) × (z ≡ y)) ⊎ (slice_get b.blocks j ≡ Some (Some y)) → IsIn c (split_targets x.exit) → IsIn c (targets_of y.exit) → i ≡ j
@@ -194,12 +217,14 @@ module _ (k : Known) (texts : ℕ) where
       record {
         banks = g.banks;
         scalars = g.scalars;
+        handed = g.handed;
         some = g.some;
         ops = λ op h. g.ops op (there op h);
         exits = g.exits;
         traps = g.traps;
         single = g.single;
-        made = λ v a h. let m = g.made v a h in (m.0, here (Place v a m.0) m.1);
+        made = λ v a h. let m = g.made v a h in (m.0, m.1, here m.0 m.2);
+        stands = λ v h. elim (g.stands v h) [ inl w ↦ inl w | inr m ↦ inr (m.0, m.1, here m.0 m.2) ];
       }
     where
       there : (op : Op) → Has (slice_set b.blocks b.current (Some (record { ops = b.ops; exit = exit }))) [] op → Has (slice_set b.blocks b.current (Some (record { ops = b.ops; exit = exit }))) b.ops op
@@ -211,18 +236,20 @@ module _ (k : Known) (texts : ℕ) where
       here op (finished i x e m) = finished i x e m
 
   pub fits_turned : (roles : List Role) (b : Builder) (n : ℕ) → Fits k texts roles b → Fits k texts roles (turned_to b n)
-  fits_turned roles b n f = record { banks = f.banks; scalars = f.scalars; some = f.some; ops = f.ops; exits = f.exits; traps = f.traps; single = f.single; made = f.made }
+  fits_turned roles b n f = record { banks = f.banks; scalars = f.scalars; handed = f.handed; some = f.some; ops = f.ops; exits = f.exits; traps = f.traps; single = f.single; made = f.made; stands = f.stands }
 
   pub fits_op : (roles : List Role) (b : Builder) (op : Op) → Fits k texts roles b → OpFits k texts roles op → Fits k texts roles (with_op b op)
   fits_op roles b op f h = record {
     banks = f.banks;
     scalars = f.scalars;
+    handed = f.handed;
     some = f.some;
     ops = λ o m. elim (has_more b.blocks b.ops op o m) [ inl w ↦ f.ops o w | inr e ↦ subst (OpFits k texts roles) (sym e) h ];
     exits = f.exits;
     traps = f.traps;
     single = f.single;
-    made = λ v a w. let m = f.made v a w in (m.0, has_still b.blocks b.ops op (Place v a m.0) m.1);
+    made = λ v a w. let m = f.made v a w in (m.0, m.1, has_still b.blocks b.ops op m.0 m.2);
+    stands = λ v w. elim (f.stands v w) [ inl w ↦ inl w | inr m ↦ inr (m.0, m.1, has_still b.blocks b.ops op m.0 m.2) ];
   }
 
   pub role_front : (roles : List Role) (role : Role) → Kept roles (roles ++ role ∷ [])
@@ -234,40 +261,46 @@ module _ (k : Known) (texts : ℕ) where
   banks_more : (roles : List Role) (role : Role) (b : Builder) → Fits k texts roles b → b.banks ++ bank_of_role role ∷ [] ≡ map bank_of_role (roles ++ role ∷ [])
   banks_more roles role b f = ap (λ z. z ++ bank_of_role role ∷ []) f.banks ∙ sym (map-append bank_of_role roles (role ∷ []))
 
-  -- a value is taken, which is no place
-  pub fits_value : (roles : List Role) (b : Builder) (role : Role) → Fits k texts roles b → ((a : ℕ) → role ≡ PlaceOf a → ⊥) → Fits k texts (roles ++ role ∷ []) (with_value b (bank_of_role role))
-  fits_value roles b role f other = record {
+  -- a value is taken, which neither is a place nor holds where an array stands
+  pub fits_value : (roles : List Role) (b : Builder) (role : Role) → Fits k texts roles b → ((a : ℕ) → role ≡ PlaceOf a → ⊥) → (role ≡ Stand → ⊥) → Fits k texts (roles ++ role ∷ []) (with_value b (bank_of_role role))
+  fits_value roles b role f other stand = record {
     banks = banks_more roles role b f;
     scalars = λ v l. role_front roles role v Scalar (f.scalars v l);
+    handed = λ a base size e. let h = f.handed a base size e in (role_front roles role base Stand h.0, role_front roles role size Scalar h.1);
     some = f.some;
     ops = λ op h. op_on k texts roles (roles ++ role ∷ []) (role_front roles role) op (f.ops op h);
     exits = λ i x e. exit_on k roles (roles ++ role ∷ []) (length b.blocks) (length b.blocks) (role_front roles role) (omega arith) x.exit (f.exits i x e);
     traps = f.traps;
     single = f.single;
     made = λ v a h. elim (get_more roles role v (PlaceOf a) h) [ inl w ↦ f.made v a w | inr w ↦ absurd (other a w.1) ];
+    stands = λ v h. elim (get_more roles role v Stand h) [ inl w ↦ f.stands v w | inr w ↦ absurd (stand w.1) ];
   }
 
-  -- a place is made of an index
-  pub fits_place : (roles : List Role) (b : Builder) (a : ℕ) (i : Operand) → Fits k texts roles b → a < k.arrays → OperandFits roles i → Fits k texts (roles ++ PlaceOf a ∷ []) (with_op (with_value b General) (Place (length b.banks) a i))
-  fits_place roles b a i f below h =
-      let later = roles ++ PlaceOf a ∷ [] in
-      let front = role_front roles (PlaceOf a) in
-      let new : OpFits k texts later (Place (length b.banks) a i) = (role_last roles (PlaceOf a) b f, below, operand_on roles later front i h) in
+  -- a value is taken, and made a place or a base at once
+  pub fits_made : (roles : List Role) (b : Builder) (role : Role) (op : Op) → Fits k texts roles b → OpFits k texts (roles ++ role ∷ []) op → ((a : ℕ) → role ≡ PlaceOf a → MakesPlace (length b.banks) a op) → (role ≡ Stand → MakesStand (length b.banks) op) → Fits k texts (roles ++ role ∷ []) (with_op (with_value b (bank_of_role role)) op)
+  fits_made roles b role op f new place stand =
+      let later = roles ++ role ∷ [] in
+      let front = role_front roles role in
       record {
-        banks = banks_more roles (PlaceOf a) b f;
+        banks = banks_more roles role b f;
         scalars = λ v l. front v Scalar (f.scalars v l);
+        handed = λ a base size e. let h = f.handed a base size e in (front base Stand h.0, front size Scalar h.1);
         some = f.some;
-        ops = λ o m. elim (has_more b.blocks b.ops (Place (length b.banks) a i) o m) [ inl w ↦ op_on k texts roles later front o (f.ops o w) | inr e ↦ subst (OpFits k texts later) (sym e) new ];
+        ops = λ o m. elim (has_more b.blocks b.ops op o m) [ inl w ↦ op_on k texts roles later front o (f.ops o w) | inr e ↦ subst (OpFits k texts later) (sym e) new ];
         exits = λ j x e. exit_on k roles later (length b.blocks) (length b.blocks) front (omega arith) x.exit (f.exits j x e);
         traps = f.traps;
         single = f.single;
-        made = λ v c w. one v c (get_more roles (PlaceOf a) v (PlaceOf c) w);
+        made = λ v a w. one v a (get_more roles role v (PlaceOf a) w);
+        stands = λ v w. base v (get_more roles role v Stand w);
       }
     where
-      one : (v c : ℕ) → (slice_get roles v ≡ Some (PlaceOf c)) ⊎ ((v ≡ length roles) × (PlaceOf a ≡ PlaceOf c)) → (index : Operand) × Has b.blocks (b.ops ++ Place (length b.banks) a i ∷ []) (Place v c index)
-      one v c (inl w) = let m = f.made v c w in (m.0, has_still b.blocks b.ops (Place (length b.banks) a i) (Place v c m.0) m.1)
-      one v c (inr w) =
-          let at : length b.banks ≡ v = ap length f.banks ∙ length-map roles bank_of_role ∙ sym w.0 in
-          let array : a ≡ c = cc in
-          let is : Place (length b.banks) a i ≡ Place v c i = ap (λ z. Place z a i) at ∙ ap (λ z. Place v z i) array in
-          (i, opened (subst (λ z. IsIn z (b.ops ++ Place (length b.banks) a i ∷ [])) is (in_last (Place (length b.banks) a i) b.ops)))
+      at : (v : ℕ) → v ≡ length roles → length b.banks ≡ v
+      at v e = ap length f.banks ∙ length-map roles bank_of_role ∙ sym e
+
+      one : (v a : ℕ) → (slice_get roles v ≡ Some (PlaceOf a)) ⊎ ((v ≡ length roles) × (role ≡ PlaceOf a)) → (o : Op) × MakesPlace v a o × Has b.blocks (b.ops ++ op ∷ []) o
+      one v a (inl w) = let m = f.made v a w in (m.0, m.1, has_still b.blocks b.ops op m.0 m.2)
+      one v a (inr w) = (op, subst (λ z. MakesPlace z a op) (at v w.0) (place a w.1), opened (in_last op b.ops))
+
+      base : (v : ℕ) → (slice_get roles v ≡ Some Stand) ⊎ ((v ≡ length roles) × (role ≡ Stand)) → IsHandedBase words v ⊎ ((o : Op) × MakesStand v o × Has b.blocks (b.ops ++ op ∷ []) o)
+      base v (inl w) = elim (f.stands v w) [ inl h ↦ inl h | inr m ↦ inr (m.0, m.1, has_still b.blocks b.ops op m.0 m.2) ]
+      base v (inr w) = inr (op, subst (λ z. MakesStand z op) (at v w.0) (stand w.1), opened (in_last op b.ops))

@@ -7,6 +7,7 @@ use Rattle.vx_ast.specs.View.{code_of, all_in}
 use Rattle.vx_ast.specs.Accepted.{nodes_of, code_nodes, scalars_of, test_nodes}
 use Rattle.vx_ast.specs.Tree.{One, Tree, Code, Nothing, While, DoWhile, For}
 use Rattle.vx_flow.specs.declared.graph.Exit.TheVariants.{Goto}
+use Rattle.vx_lower.specs.Seen.{Sees}
 use Rattle.vx_lower.specs.Builds.{reserved, closed}
 use Rattle.vx_lower.specs.Named.{Known, CodeNamed}
 use Rattle.vx_lower.specs.Fits.{TestsWell}
@@ -66,7 +67,7 @@ more_branches h1 h2 n1 n2 n p q f = omega arith
 
 -- loops
 
-pub while_well : (leaves again : Option ℕ) (h n x : ℕ) (e : Tree One) (body : Code) (b0 b1 b2 b3 b4 b5 b6 : Builder) (t0 t1 : List (List ℕ)) → (h ≡ length b0.blocks) × (b1 ≡ closed (reserved b0) (Goto h) h) → TestsWell e n b1 b2 → (x ≡ length b2.blocks) × (b3 ≡ reserved b2) → StatementWell body (Some x) (Some h) b3 b4 t0 t1 → b5 ≡ closed b4 (Goto h) n → b6 ≡ closed b5 (Goto x) x → StatementWell (While e body) leaves again b0 b6 t0 t1
+pub while_well : {words : Sees} (leaves again : Option ℕ) (h n x : ℕ) (e : Tree One) (body : Code) (b0 b1 b2 b3 b4 b5 b6 : Builder) (t0 t1 : List (List ℕ)) → (h ≡ length b0.blocks) × (b1 ≡ closed (reserved b0) (Goto h) h) → TestsWell words e n b1 b2 → (x ≡ length b2.blocks) × (b3 ≡ reserved b2) → StatementWell words body (Some x) (Some h) b3 b4 t0 t1 → b5 ≡ closed b4 (Goto h) n → b6 ≡ closed b5 (Goto x) x → StatementWell words (While e body) leaves again b0 b6 t0 t1
 while_well leaves again h n x e body b0 b1 b2 b3 b4 b5 b6 t0 t1 eh et en eb e5 e6 k roles s is wl wa =
     let a = enters_well h b0 b1 eh s in
     let t = et k (length t0) roles a.keeps.shaped is.0 in
@@ -79,7 +80,7 @@ while_well leaves again h n x e body b0 b1 b2 b3 b4 b5 b6 t0 t1 eh et en eb e5 e
     (to_next (length b0.blocks) (length b2.blocks) x (up_to (length b0.blocks) (length b1.blocks) (length b2.blocks) a.keeps.longer t.keeps.longer) r.at) (one.free x (u.keeps.free x r.free)) in
     made_by (While e body) two.keeps (while_generals t.generals u.generals (length (scalars_of body)) (nodes_of e) (code_nodes body) t.few_generals u.few_generals) (while_branches t.branches u.branches (nodes_of e) (code_nodes body) t.few_branches u.few_branches)
 
-pub do_while_well : (leaves again : Option ℕ) (h n x c : ℕ) (body : Code) (e : Tree One) (b0 b1 b2 b3 b4 b5 b6 b7 b8 : Builder) (t0 t1 : List (List ℕ)) → (h ≡ length b0.blocks) × (b1 ≡ closed (reserved b0) (Goto h) h) → (x ≡ length b1.blocks) × (b2 ≡ reserved b1) → (c ≡ length b2.blocks) × (b3 ≡ reserved b2) → StatementWell body (Some x) (Some c) b3 b4 t0 t1 → b5 ≡ closed b4 (Goto c) c → TestsWell e n b5 b6 → b7 ≡ closed b6 (Goto h) n → b8 ≡ closed b7 (Goto x) x → StatementWell (DoWhile body e) leaves again b0 b8 t0 t1
+pub do_while_well : {words : Sees} (leaves again : Option ℕ) (h n x c : ℕ) (body : Code) (e : Tree One) (b0 b1 b2 b3 b4 b5 b6 b7 b8 : Builder) (t0 t1 : List (List ℕ)) → (h ≡ length b0.blocks) × (b1 ≡ closed (reserved b0) (Goto h) h) → (x ≡ length b1.blocks) × (b2 ≡ reserved b1) → (c ≡ length b2.blocks) × (b3 ≡ reserved b2) → StatementWell words body (Some x) (Some c) b3 b4 t0 t1 → b5 ≡ closed b4 (Goto c) c → TestsWell words e n b5 b6 → b7 ≡ closed b6 (Goto h) n → b8 ≡ closed b7 (Goto x) x → StatementWell words (DoWhile body e) leaves again b0 b8 t0 t1
 do_while_well leaves again h n x c body e b0 b1 b2 b3 b4 b5 b6 b7 b8 t0 t1 eh ex ec eb e5 et e7 e8 k roles s is wl wa =
     let a = enters_well h b0 b1 eh s in
     let rx = reserves_well x b1 b2 ex a.keeps.shaped in
@@ -97,7 +98,7 @@ do_while_well leaves again h n x c body e b0 b1 b2 b3 b4 b5 b6 b7 b8 t0 t1 eh ex
     let three = turned_well x x b0 b7 b8 e8 two.keeps (two.spare x (t.keeps.spare x spare5) (under x (length b5.blocks) n free5.below t.late)) (to_next (length b0.blocks) (length b1.blocks) x a.keeps.longer rx.at) (two.free x (t.keeps.free x free5)) in
     made_by (DoWhile body e) three.keeps (do_while_generals t.generals u.generals (length (scalars_of body)) (nodes_of e) (code_nodes body) t.few_generals u.few_generals) (do_while_branches t.branches u.branches (nodes_of e) (code_nodes body) t.few_branches u.few_branches)
 
-pub for_well : (leaves again : Option ℕ) (h n x c : ℕ) (first step body : Code) (test : Option (Tree One)) (b0 b1 b2 b3 b4 b5 b6 b7 b8 b9 b10 : Builder) (t0 t1 : List (List ℕ)) → PlainWell first b0 b1 → (h ≡ length b1.blocks) × (b2 ≡ closed (reserved b1) (Goto h) h) → LoopTestWell test n b2 b3 → (x ≡ length b3.blocks) × (b4 ≡ reserved b3) → (c ≡ length b4.blocks) × (b5 ≡ reserved b4) → StatementWell body (Some x) (Some c) b5 b6 t0 t1 → b7 ≡ closed b6 (Goto c) c → PlainWell step b7 b8 → b9 ≡ closed b8 (Goto h) n → b10 ≡ closed b9 (Goto x) x → StatementWell (For first test step body) leaves again b0 b10 t0 t1
+pub for_well : {words : Sees} (leaves again : Option ℕ) (h n x c : ℕ) (first step body : Code) (test : Option (Tree One)) (b0 b1 b2 b3 b4 b5 b6 b7 b8 b9 b10 : Builder) (t0 t1 : List (List ℕ)) → PlainWell words first b0 b1 → (h ≡ length b1.blocks) × (b2 ≡ closed (reserved b1) (Goto h) h) → LoopTestWell words test n b2 b3 → (x ≡ length b3.blocks) × (b4 ≡ reserved b3) → (c ≡ length b4.blocks) × (b5 ≡ reserved b4) → StatementWell words body (Some x) (Some c) b5 b6 t0 t1 → b7 ≡ closed b6 (Goto c) c → PlainWell words step b7 b8 → b9 ≡ closed b8 (Goto h) n → b10 ≡ closed b9 (Goto x) x → StatementWell words (For first test step body) leaves again b0 b10 t0 t1
 for_well leaves again h n x c first step body test b0 b1 b2 b3 b4 b5 b6 b7 b8 b9 b10 t0 t1 ef eh et ex ec eb e7 es e9 e10 k roles s is wl wa =
     let f = ef k (length t0) roles s is.0 in
     let a = enters_well h b1 b2 eh f.keeps.shaped in
@@ -126,7 +127,7 @@ for_well leaves again h n x c first step body test b0 b1 b2 b3 b4 b5 b6 b7 b8 b9
 
 -- lists of statements
 
-pub nothing_well : (leaves again : Option ℕ) (b : Builder) (ts : List (List ℕ)) → StatementWell Nothing leaves again b b ts ts
+pub nothing_well : {words : Sees} (leaves again : Option ℕ) (b : Builder) (ts : List (List ℕ)) → StatementWell words Nothing leaves again b b ts ts
 nothing_well leaves again b ts k roles s is wl wa = made_by Nothing (keeps_self s) (omega arith) (omega arith)
 
 all_nodes : (xs : List Statement) (x : Statement) → code_nodes (all_in (xs ++ x ∷ [])) ≡ code_nodes (all_in xs) + code_nodes (code_of x)
@@ -137,11 +138,11 @@ all_scalars : (xs : List Statement) (x : Statement) → length (scalars_of (all_
 all_scalars [] x = let e = length-append (scalars_of (code_of x)) (scalars_of (all_in [])) in let z : length (scalars_of (all_in [])) ≡ 0 = refl in let q : length (scalars_of (all_in (x ∷ []))) ≡ length (scalars_of (code_of x) ++ scalars_of (all_in [])) = refl in omega arith
 all_scalars (y ∷ xs) x = let h = all_scalars xs x in let e = length-append (scalars_of (code_of y)) (scalars_of (all_in (xs ++ x ∷ []))) in let z = length-append (scalars_of (code_of y)) (scalars_of (all_in xs)) in let q : length (scalars_of (all_in (y ∷ (xs ++ x ∷ [])))) ≡ length (scalars_of (code_of y) ++ scalars_of (all_in (xs ++ x ∷ []))) = refl in let r : length (scalars_of (all_in (y ∷ xs))) ≡ length (scalars_of (code_of y) ++ scalars_of (all_in xs)) = refl in omega arith
 
-all_named : (k : Known) (xs : List Statement) (x : Statement) → CodeNamed k (all_in (xs ++ x ∷ [])) → CodeNamed k (all_in xs) × CodeNamed k (code_of x)
+all_named : {words : Sees} (k : Known words) (xs : List Statement) (x : Statement) → CodeNamed k (all_in (xs ++ x ∷ [])) → CodeNamed k (all_in xs) × CodeNamed k (code_of x)
 all_named k [] x h = (tt, h.0)
 all_named k (y ∷ xs) x h = let w = all_named k xs x h.1 in ((h.0, w.0), w.1)
 
-pub more_well : (leaves again : Option ℕ) (xs : List Statement) (x : Statement) (b0 b1 b2 : Builder) (t0 t1 t2 : List (List ℕ)) → StatementWell (all_in xs) leaves again b0 b1 t0 t1 → StatementWell (code_of x) leaves again b1 b2 t1 t2 → StatementWell (all_in (xs ++ x ∷ [])) leaves again b0 b2 t0 t2
+pub more_well : {words : Sees} (leaves again : Option ℕ) (xs : List Statement) (x : Statement) (b0 b1 b2 : Builder) (t0 t1 t2 : List (List ℕ)) → StatementWell words (all_in xs) leaves again b0 b1 t0 t1 → StatementWell words (code_of x) leaves again b1 b2 t1 t2 → StatementWell words (all_in (xs ++ x ∷ [])) leaves again b0 b2 t0 t2
 more_well leaves again xs x b0 b1 b2 t0 t1 t2 f g k roles s is wl wa =
     let named = all_named k xs x is in
     let u = f k roles s named.0 wl wa in

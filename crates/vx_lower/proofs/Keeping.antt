@@ -10,24 +10,26 @@ use Rattle.vx_flow.specs.declared.graph.Bank.{Bank}
 use Rattle.vx_flow.specs.declared.graph.Bank.TheVariants.{General, Branch}
 use Rattle.vx_flow.specs.declared.graph.Operand.{Operand}
 use Rattle.vx_flow.specs.declared.graph.Op.{Op}
-use Rattle.vx_flow.specs.declared.graph.Op.TheVariants.{Compute, Select, Place, Load, Store, More, Input, Text, Decimal, Across}
+use Rattle.vx_flow.specs.declared.graph.Op.TheVariants.{Compute, Select, Place, Load, Store, More, Input, Text, Decimal, Across, Base, PlaceIn}
 use Rattle.vx_flow.specs.declared.graph.Exit.{Exit}
 use Rattle.vx_flow.specs.declared.graph.Exit.TheVariants.{Goto, Split, Call, Return, Ends}
 use Rattle.vx_flow.specs.declared.graph.Block.{Block}
 use Rattle.vx_flow.specs.Effects.{IsIn}
-use Rattle.vx_flow.specs.Sound.{targets_of}
+use Rattle.vx_flow.specs.Sound.{MakesPlace, targets_of}
+use Rattle.vx_lower.specs.Seen.{Sees}
 use Rattle.vx_lower.specs.FlowOf.{is_general, is_branch}
 use Rattle.vx_lower.specs.Holds.{ends}
 use Rattle.vx_lower.specs.Builds.{reserved, closed, filled, turned_to, with_value, with_op}
 use Rattle.vx_lower.specs.Emits.{Spare, Aimed}
 use Rattle.vx_lower.specs.Adds.{entered, Added, near, far, Forked, Trapped, Last}
 use Rattle.vx_lower.specs.Named.{Known, TakesArguments}
-use Rattle.vx_lower.specs.Fits.{Role, Scalar, Test, PlaceOf, bank_of_role, HasRole, OperandFits, OpFits, ResultFits, AllFit, ExitFits, split_targets, Fits, Shaped, Free, Keeps, DestFits, Takes}
+use Rattle.vx_ast.specs.declared.tree.Takes.{Takes as Kind}
+use Rattle.vx_lower.specs.Fits.{Role, Scalar, Test, PlaceOf, Stand, MakesStand, bank_of_role, HasRole, OperandFits, OpFits, ResultFits, ArgumentsFit, ExitFits, split_targets, Fits, Shaped, Free, Keeps, DestFits, Takes}
 use Rattle.vx_lower.specs.declared.builder.Builder.{Builder}
 use Rattle.vx_lower.proofs.Places.{get_front, length_more, set_other, set_length}
 use Rattle.vx_lower.proofs.Building.{current_within, grows_reserved}
 use Rattle.vx_lower.proofs.Emitting.{spare_closed, spare_filled, spare_reserved, ready_closed}
-use Rattle.vx_lower.proofs.Fitting.{Kept, get_waiting, get_set, split_is_target, target_fits, Leads, fits_reserved, fits_filled, fits_closed, fits_turned, fits_op, fits_value, fits_place, role_front, role_last}
+use Rattle.vx_lower.proofs.Fitting.{Kept, get_waiting, get_set, split_is_target, target_fits, Leads, fits_reserved, fits_filled, fits_closed, fits_turned, fits_op, fits_value, fits_made, role_front, role_last}
 
 -- counts
 
@@ -35,28 +37,28 @@ count_more : (p : Bank → Bool) (xs : List Bank) (x : Bank) (n : ℕ) → cond 
 count_more p xs x n e = let s = sum_by-append (λ y. cond (p y) 1 0) xs (x ∷ []) in let one : sum_by (λ y. cond (p y) 1 0) (x ∷ []) ≡ 0 + cond (p x) 1 0 = refl in omega arith
 
 -- a jump, a call or a return from the open block
-abbrev pub Leaves : Known → List Role → Builder → Exit → Type 0
+abbrev pub Leaves : {words : Sees} → Known words → List Role → Builder → Exit → Type 0
 Leaves k roles b (Goto c) = Free b c
 Leaves k roles b (Split test c d) = ⊥
-Leaves k roles b (Call f os result c) = TakesArguments k f (length os) × AllFit roles os × ResultFits roles result × Free b c
+Leaves k roles b (Call f os result c) = ((takes : List Kind) × TakesArguments k f takes × ArgumentsFit roles takes os) × ResultFits roles result × Free b c
 Leaves k roles b (Return o) = OperandFits roles o
 Leaves k roles b (Ends trap) = ⊥
 
-leaves_fit : (k : Known) (roles : List Role) (b : Builder) (exit : Exit) → Leaves k roles b exit → ExitFits k roles (length b.blocks) exit
+leaves_fit : {words : Sees} (k : Known words) (roles : List Role) (b : Builder) (exit : Exit) → Leaves k roles b exit → ExitFits k roles (length b.blocks) exit
 leaves_fit k roles b (Goto c) h = (h.above, h.below)
 leaves_fit k roles b (Split test c d) h = absurd h
-leaves_fit k roles b (Call f os result c) h = (h.0, h.1, h.2, (h.3.above, h.3.below))
+leaves_fit k roles b (Call f os result c) h = (h.0, h.1, (h.2.above, h.2.below))
 leaves_fit k roles b (Return o) h = h
 leaves_fit k roles b (Ends trap) h = absurd h
 
-leaves_untrapped : (k : Known) (roles : List Role) (b : Builder) (exit : Exit) → Leaves k roles b exit → (trap : Trap) → exit ≡ Ends trap → ⊥
+leaves_untrapped : {words : Sees} (k : Known words) (roles : List Role) (b : Builder) (exit : Exit) → Leaves k roles b exit → (trap : Trap) → exit ≡ Ends trap → ⊥
 leaves_untrapped k roles b (Goto c) h trap e = cc
 leaves_untrapped k roles b (Split test c d) h trap e = absurd h
 leaves_untrapped k roles b (Call f os result c) h trap e = cc
 leaves_untrapped k roles b (Return o) h trap e = cc
 leaves_untrapped k roles b (Ends other) h trap e = absurd h
 
-leaves_unsplit : (k : Known) (roles : List Role) (b : Builder) (exit : Exit) → Leaves k roles b exit → (c : ℕ) → IsIn c (split_targets exit) → ⊥
+leaves_unsplit : {words : Sees} (k : Known words) (roles : List Role) (b : Builder) (exit : Exit) → Leaves k roles b exit → (c : ℕ) → IsIn c (split_targets exit) → ⊥
 leaves_unsplit k roles b (Goto d) h c m = m
 leaves_unsplit k roles b (Split test d e) h c m = absurd h
 leaves_unsplit k roles b (Call f os result d) h c m = m
@@ -67,10 +69,10 @@ one_free : (b : Builder) (c d : ℕ) → Free b d → IsIn c (d ∷ []) → Free
 one_free b c d h (inl e) = subst (Free b) (sym e) h
 one_free b c d h (inr m) = absurd m
 
-leaves_free : (k : Known) (roles : List Role) (b : Builder) (exit : Exit) → Leaves k roles b exit → (c : ℕ) → IsIn c (targets_of exit) → Free b c
+leaves_free : {words : Sees} (k : Known words) (roles : List Role) (b : Builder) (exit : Exit) → Leaves k roles b exit → (c : ℕ) → IsIn c (targets_of exit) → Free b c
 leaves_free k roles b (Goto d) h c m = one_free b c d h m
 leaves_free k roles b (Split test d e) h c m = absurd h
-leaves_free k roles b (Call f os result d) h c m = one_free b c d h.3 m
+leaves_free k roles b (Call f os result d) h c m = one_free b c d h.2 m
 leaves_free k roles b (Return o) h c m = absurd m
 leaves_free k roles b (Ends trap) h c m = absurd h
 
@@ -81,25 +83,25 @@ free_filled b p z c n h = let l = set_length b.blocks p (Some z) in let w = h.be
   unsplit = λ i x e m. elim (get_set b.blocks p z i x e) [ inl w ↦ n (subst (λ q. IsIn c (split_targets q.exit)) (sym w.1) m) | inr w ↦ h.unsplit i x w m ];
 }
 
-pub free_closed : (k : Known) (roles : List Role) {b : Builder} (exit : Exit) (n c : ℕ) → Leaves k roles b exit → Free b c → Free (closed b exit n) c
+pub free_closed : {words : Sees} (k : Known words) (roles : List Role) {b : Builder} (exit : Exit) (n c : ℕ) → Leaves k roles b exit → Free b c → Free (closed b exit n) c
 free_closed k roles {b} exit n c h free =
     let f = free_filled b b.current (record { ops = b.ops; exit = exit }) c (leaves_unsplit k roles b exit h c) free in
     record { above = f.above; below = f.below; unsplit = f.unsplit }
 
 -- a fork: n waits
-pub record Forks (k : Known) (texts : ℕ) (roles : List Role) (n : ℕ) (a b : Builder) : Type 0 where
+pub record Forks {words : Sees} (k : Known words) (texts : ℕ) (roles : List Role) (n : ℕ) (a b : Builder) : Type 0 where
   pub keeps : Keeps k texts roles roles 0 0 a b
   pub waits : Spare b n
   pub late : length a.blocks ≤ n
   pub moved : length a.blocks ≤ b.current
 
 -- there may be more texts behind the second part
-pub keeps_on : {k : Known} {before texts : ℕ} {r0 r1 r2 : List Role} {g1 h1 g2 h2 : ℕ} {a b c : Builder} → Keeps k before r0 r1 g1 h1 a b → Keeps k texts r1 r2 g2 h2 b c → Keeps k texts r0 r2 (g1 + g2) (h1 + h2) a c
+pub keeps_on : {words : Sees} {k : Known words} {before texts : ℕ} {r0 r1 r2 : List Role} {g1 h1 g2 h2 : ℕ} {a b c : Builder} → Keeps k before r0 r1 g1 h1 a b → Keeps k texts r1 r2 g2 h2 b c → Keeps k texts r0 r2 (g1 + g2) (h1 + h2) a c
 keeps_on x y =
     let l1 = x.longer in let l2 = y.longer in let p1 = x.general_values in let p2 = y.general_values in let q1 = x.branch_values in let q2 = y.branch_values in
     record { shaped = y.shaped; kept = λ v role h. y.kept v role (x.kept v role h); free = λ d h. y.free d (x.free d h); spare = λ n h. y.spare n (x.spare n h); longer = omega arith; general_values = omega arith; branch_values = omega arith }
 
-texts_more : (k : Known) (roles : List Role) (before texts : ℕ) → before ≤ texts → (op : Op) → OpFits k before roles op → OpFits k texts roles op
+texts_more : {words : Sees} (k : Known words) (roles : List Role) (before texts : ℕ) → before ≤ texts → (op : Op) → OpFits k before roles op → OpFits k texts roles op
 texts_more k roles before texts le (Text n) h = omega arith
 texts_more k roles before texts le (Compute code t a b) h = h
 texts_more k roles before texts le (Select t test a b) h = h
@@ -110,14 +112,22 @@ texts_more k roles before texts le (More t) h = h
 texts_more k roles before texts le (Input t) h = h
 texts_more k roles before texts le (Decimal o) h = h
 texts_more k roles before texts le (Across t v) h = h
+texts_more k roles before texts le (Base t a x) h = h
+texts_more k roles before texts le (PlaceIn t a u i) h = h
 
-pub shaped_texts : {k : Known} {roles : List Role} {b : Builder} (before texts : ℕ) → before ≤ texts → Shaped k before roles b → Shaped k texts roles b
-shaped_texts {k} {roles} before texts le s = let f = s.fits in record {
+pub shaped_texts : {words : Sees} {k : Known words} {roles : List Role} {b : Builder} (before texts : ℕ) → before ≤ texts → Shaped k before roles b → Shaped k texts roles b
+shaped_texts {k = k} {roles = roles} before texts le s = let f = s.fits in record {
   ready = s.ready;
-  fits = record { banks = f.banks; scalars = f.scalars; some = f.some; ops = λ op h. texts_more k roles before texts le op (f.ops op h); exits = f.exits; traps = f.traps; single = f.single; made = f.made };
+  fits = record { banks = f.banks; scalars = f.scalars; handed = f.handed; some = f.some; ops = λ op h. texts_more k roles before texts le op (f.ops op h); exits = f.exits; traps = f.traps; single = f.single; made = f.made; stands = f.stands };
 }
 
-module _ {k : Known} {texts : ℕ} where
+-- the operation makes a general value of this role, whichever value it is
+pub record Makes (role : Role) (op : ℕ → Op) : Type 0 where
+  pub place : (v a : ℕ) → role ≡ PlaceOf a → MakesPlace v a (op v)
+  pub stand : (v : ℕ) → role ≡ Stand → MakesStand v (op v)
+  pub general : bank_of_role role ≡ General
+
+module _ {words : Sees} {k : Known words} {texts : ℕ} where
   leaves_lead : (roles : List Role) (b : Builder) (exit : Exit) → Leaves k roles b exit → Leads k texts b exit
   leaves_lead roles b exit h = record {
     unsplit = λ c m. (leaves_free k roles b exit h c m).unsplit;
@@ -237,11 +247,11 @@ module _ {k : Known} {texts : ℕ} where
 
   -- values
 
-  keeps_value : {roles : List Role} {b : Builder} (role : Role) (g h : ℕ) → Shaped k texts roles b → ((a : ℕ) → role ≡ PlaceOf a → ⊥) → cond (is_general (bank_of_role role)) 1 0 ≡ g → cond (is_branch (bank_of_role role)) 1 0 ≡ h → Keeps k texts roles (roles ++ role ∷ []) g h b (with_value b (bank_of_role role))
-  keeps_value {roles} {b} role g h s other eg eh =
+  keeps_value : {roles : List Role} {b : Builder} (role : Role) (g h : ℕ) → Shaped k texts roles b → ((a : ℕ) → role ≡ PlaceOf a → ⊥) → (role ≡ Stand → ⊥) → cond (is_general (bank_of_role role)) 1 0 ≡ g → cond (is_branch (bank_of_role role)) 1 0 ≡ h → Keeps k texts roles (roles ++ role ∷ []) g h b (with_value b (bank_of_role role))
+  keeps_value {roles} {b} role g h s other stand eg eh =
       let p = count_more is_general b.banks (bank_of_role role) g eg in let q = count_more is_branch b.banks (bank_of_role role) h eh in
       record {
-        shaped = record { ready = record { is = s.ready.is }; fits = fits_value k texts roles b role s.fits other };
+        shaped = record { ready = record { is = s.ready.is }; fits = fits_value k texts roles b role s.fits other stand };
         kept = role_front k texts roles role;
         free = λ c f. record { above = f.above; below = f.below; unsplit = f.unsplit };
         spare = λ n f. record { free = f.free; apart = f.apart };
@@ -253,14 +263,14 @@ module _ {k : Known} {texts : ℕ} where
   pub taken_scalar : {roles : List Role} {t : ℕ} {a b : Builder} → (t ≡ length a.banks) × (b ≡ with_value a General) → Shaped k texts roles a → Takes k texts roles Scalar t 1 0 a b
   taken_scalar {roles} {t} {a} {b} e s = record {
     later = roles ++ Scalar ∷ [];
-    keeps = subst (Keeps k texts roles (roles ++ Scalar ∷ []) 1 0 a) (sym e.1) (keeps_value Scalar 1 0 s (λ x d. cc) refl refl);
+    keeps = subst (Keeps k texts roles (roles ++ Scalar ∷ []) 1 0 a) (sym e.1) (keeps_value Scalar 1 0 s (λ x d. cc) (λ d. cc) refl refl);
     has = subst (λ z. HasRole (roles ++ Scalar ∷ []) z Scalar) (sym e.0) (role_last k texts roles Scalar a s.fits);
   }
 
   pub taken_test : {roles : List Role} {t : ℕ} {a b : Builder} → (t ≡ length a.banks) × (b ≡ with_value a Branch) → Shaped k texts roles a → Takes k texts roles Test t 0 1 a b
   taken_test {roles} {t} {a} {b} e s = record {
     later = roles ++ Test ∷ [];
-    keeps = subst (Keeps k texts roles (roles ++ Test ∷ []) 0 1 a) (sym e.1) (keeps_value Test 0 1 s (λ x d. cc) refl refl);
+    keeps = subst (Keeps k texts roles (roles ++ Test ∷ []) 0 1 a) (sym e.1) (keeps_value Test 0 1 s (λ x d. cc) (λ d. cc) refl refl);
     has = subst (λ z. HasRole (roles ++ Test ∷ []) z Test) (sym e.0) (role_last k texts roles Test a s.fits);
   }
 
@@ -279,13 +289,14 @@ module _ {k : Known} {texts : ℕ} where
       let p = keeps_added x.added w.keeps.shaped (fits w.later w.keeps.kept w.has) in
       record { later = w.later; keeps = keeps_on w.keeps p; has = w.has }
 
-  -- the place of an element
-  keeps_placed : {roles : List Role} {b : Builder} (a : ℕ) (i : Operand) → Shaped k texts roles b → a < k.arrays → OperandFits roles i → Keeps k texts roles (roles ++ PlaceOf a ∷ []) 1 0 b (with_op (with_value b General) (Place (length b.banks) a i))
-  keeps_placed {roles} {b} a i s below h =
+  -- a value that is made a place or a base at once
+
+  keeps_made : {roles : List Role} {b : Builder} (role : Role) (op : ℕ → Op) → Makes role op → Shaped k texts roles b → OpFits k texts (roles ++ role ∷ []) (op (length b.banks)) → Keeps k texts roles (roles ++ role ∷ []) 1 0 b (with_op (with_value b General) (op (length b.banks)))
+  keeps_made {roles} {b} role op makes s fit =
       let p = count_more is_general b.banks General 1 refl in let q = count_more is_branch b.banks General 0 refl in
       record {
-        shaped = record { ready = record { is = s.ready.is }; fits = fits_place k texts roles b a i s.fits below h };
-        kept = role_front k texts roles (PlaceOf a);
+        shaped = record { ready = record { is = s.ready.is }; fits = subst (λ bank. Fits k texts (roles ++ role ∷ []) (with_op (with_value b bank) (op (length b.banks)))) makes.general (fits_made k texts roles b role (op (length b.banks)) s.fits fit (makes.place (length b.banks)) (makes.stand (length b.banks))) };
+        kept = role_front k texts roles role;
         free = λ c f. record { above = f.above; below = f.below; unsplit = f.unsplit };
         spare = λ n f. record { free = f.free; apart = f.apart };
         longer = omega arith;
@@ -293,19 +304,19 @@ module _ {k : Known} {texts : ℕ} where
         branch_values = omega arith;
       }
 
-  pub taken_place : {roles : List Role} {t a : ℕ} {i : Operand} {b0 b1 b2 : Builder} → (t ≡ length b0.banks) × (b1 ≡ with_value b0 General) → Added (Place t a i) b1 b2 → Shaped k texts roles b0 → a < k.arrays → OperandFits roles i → Takes k texts roles (PlaceOf a) t 1 0 b0 b2
-  taken_place {roles} {t} {a} {i} {b0} {b1} {b2} e (near w) s below h = record {
-    later = roles ++ PlaceOf a ∷ [];
-    keeps = subst (Keeps k texts roles (roles ++ PlaceOf a ∷ []) 1 0 b0) (sym (w ∙ ap (λ z. with_op z (Place t a i)) e.1 ∙ ap (λ z. with_op (with_value b0 General) (Place z a i)) e.0)) (keeps_placed a i s below h);
-    has = subst (λ z. HasRole (roles ++ PlaceOf a ∷ []) z (PlaceOf a)) (sym e.0) (role_last k texts roles (PlaceOf a) b0 s.fits);
+  pub taken_made : {roles : List Role} {t : ℕ} {b0 b1 b2 : Builder} (role : Role) (op : ℕ → Op) → Makes role op → (t ≡ length b0.banks) × (b1 ≡ with_value b0 General) → Added (op t) b1 b2 → Shaped k texts roles b0 → ((later : List Role) → Kept roles later → HasRole later (length b0.banks) role → OpFits k texts later (op (length b0.banks))) → Takes k texts roles role t 1 0 b0 b2
+  taken_made {roles} {t} {b0} {b1} {b2} role op makes e (near w) s fit = record {
+    later = roles ++ role ∷ [];
+    keeps = subst (Keeps k texts roles (roles ++ role ∷ []) 1 0 b0) (sym (w ∙ ap (λ z. with_op z (op t)) e.1 ∙ ap (λ z. with_op (with_value b0 General) (op z)) e.0)) (keeps_made role op makes s (fit (roles ++ role ∷ []) (role_front k texts roles role) (role_last k texts roles role b0 s.fits)));
+    has = subst (λ z. HasRole (roles ++ role ∷ []) z role) (sym e.0) (role_last k texts roles role b0 s.fits);
   }
-  taken_place {roles} {t} {a} {i} {b0} {b1} {b2} e (far w) s below h =
+  taken_made {roles} {t} {b0} {b1} {b2} role op makes e (far w) s fit =
       let x = keeps_entered s in
-      let is : b2 ≡ with_op (with_value (entered b0) General) (Place (length b0.banks) a i) = w ∙ ap (λ z. with_op (entered z) (Place t a i)) e.1 ∙ ap (λ z. with_op (with_value (entered b0) General) (Place z a i)) e.0 in
+      let is : b2 ≡ with_op (with_value (entered b0) General) (op (length b0.banks)) = w ∙ ap (λ z. with_op (entered z) (op t)) e.1 ∙ ap (λ z. with_op (with_value (entered b0) General) (op z)) e.0 in
       record {
-        later = roles ++ PlaceOf a ∷ [];
-        keeps = subst (Keeps k texts roles (roles ++ PlaceOf a ∷ []) 1 0 b0) (sym is) (keeps_on x (keeps_placed a i x.shaped below h));
-        has = subst (λ z. HasRole (roles ++ PlaceOf a ∷ []) z (PlaceOf a)) (sym e.0) (role_last k texts roles (PlaceOf a) b0 s.fits);
+        later = roles ++ role ∷ [];
+        keeps = subst (Keeps k texts roles (roles ++ role ∷ []) 1 0 b0) (sym is) (keeps_on x (keeps_made role op makes x.shaped (fit (roles ++ role ∷ []) (role_front k texts roles role) (role_last k texts roles role b0 s.fits))));
+        has = subst (λ z. HasRole (roles ++ role ∷ []) z role) (sym e.0) (role_last k texts roles role b0 s.fits);
       }
 
   -- tests

@@ -8,6 +8,7 @@ pub mod Zeros
 pub mod ActionLaws
 pub mod StatementLaws
 pub mod Facts
+pub mod Passing
 pub mod SmallWords
 pub mod Alike
 pub mod Calls
@@ -16,6 +17,7 @@ pub mod Places
 pub mod Turns
 pub mod Building
 pub mod PieceMaking
+pub mod Rows
 pub mod Emitting
 pub mod TreeViews
 pub mod StatementViews

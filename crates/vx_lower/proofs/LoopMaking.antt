@@ -8,6 +8,7 @@ use Rattle.vx_ast.specs.Tree.{One, Tree, Code, Nothing, Seq, While, DoWhile, For
 use Rattle.vx_flow.specs.declared.graph.Exit.{Exit}
 use Rattle.vx_flow.specs.declared.graph.Exit.TheVariants.{Goto}
 use Rattle.vx_flow.specs.declared.graph.Block.{Block}
+use Rattle.vx_lower.specs.Seen.{Sees}
 use Rattle.vx_lower.specs.Holds.{Goes, same, on, ends, jump}
 use Rattle.vx_lower.specs.Does.{Asks, asks, Does, nothing, seq, while, do_while, for}
 use Rattle.vx_lower.specs.Builds.{reserved, closed, Ready, Grows, Finishes, Opens, From}
@@ -86,7 +87,7 @@ turns_next b target n r s = record {
 pub turns_of : (b c : Builder) (target n : ℕ) → c ≡ closed b (Goto target) n → Ready b → Spare b n → Turns b c target n
 turns_of b c target n e r s = subst (λ z. Turns b z target n) (sym e) (turns_next b target n r s)
 
-module _ (words : List ℕ) where
+module _ (words : Sees) where
   -- `while`: h is its head, n where its test does not hold, x where it is left
   pub makes_while : (leaves again : Option ℕ) (h n x : ℕ) (e : Tree One) (body : Code) (b0 b1 b2 b3 b4 b5 b6 : Builder) (t0 t1 : List (List ℕ)) → (h ≡ length b0.blocks) × (b1 ≡ closed (reserved b0) (Goto h) h) → (Ready b1 → EmitsTest words e n b1 b2) → (x ≡ length b2.blocks) × (b3 ≡ reserved b2) → (Ready b3 → Makes words body (Some x) (Some h) b3 b4 t0 t1) → b5 ≡ closed b4 (Goto h) n → b6 ≡ closed b5 (Goto x) x → Ready b0 → Makes words (While e body) leaves again b0 b6 t0 t1
   makes_while leaves again h n x e body b0 b1 b2 b3 b4 b5 b6 t0 t1 eh et ex mb e5 e6 r =
@@ -214,7 +215,7 @@ module _ (words : List ℕ) where
 
   -- statements, one after the other
 
-  statements_within : (vars : ℕ) (xs : List Statement) (x : Statement) → CodeWithin vars (all_in (xs ++ x ∷ [])) → CodeWithin vars (all_in xs) × CodeWithin vars (code_of x)
+  statements_within : (vars : ℕ) (xs : List Statement) (x : Statement) → CodeWithin words vars (all_in (xs ++ x ∷ [])) → CodeWithin words vars (all_in xs) × CodeWithin words vars (code_of x)
   statements_within vars [] x h = (tt, h.0)
   statements_within vars (y ∷ xs) x h = let w = statements_within vars xs x h.1 in ((h.0, w.0), w.1)
 

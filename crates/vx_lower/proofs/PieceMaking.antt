@@ -14,14 +14,17 @@ use Rattle.vx_ast.specs.declared.tree.BinaryOperator.TheVariants.{Multiply, Divi
 use Rattle.vx_flow.specs.declared.graph.Bank.{Bank}
 use Rattle.vx_flow.specs.declared.graph.Bank.TheVariants.{General, Branch}
 use Rattle.vx_flow.specs.declared.graph.Operand.{Operand}
-use Rattle.vx_flow.specs.declared.graph.Operand.TheVariants.{Held, Number}
+use Rattle.vx_flow.specs.declared.graph.Operand.TheVariants.{Held, Number, Stack}
 use Rattle.vx_flow.specs.declared.graph.Op.{Op}
-use Rattle.vx_flow.specs.declared.graph.Op.TheVariants.{Compute, Place}
+use Rattle.vx_flow.specs.declared.graph.Op.TheVariants.{Compute, Base}
 use Rattle.vx_flow.specs.declared.graph.Exit.TheVariants.{Ends}
 use Rattle.vx_flow.specs.declared.graph.Block.{Block}
-use Rattle.vx_lower.specs.Holds.{size_at, IsBelow, Goes, same, Tests, Checks, Combines, single, product, quotient, operation_of, Way, To, Into, Tested, Lands, fresh, into, then_op, ends}
+use Rattle.vx_lower.specs.declared.seen.Seen.{Seen}
+use Rattle.vx_lower.specs.declared.seen.Seen.TheVariants.{GlobalArray, OwnArray, Handed}
+use Rattle.vx_lower.specs.Seen.{Sees, seen_at, size_at, place_op}
+use Rattle.vx_lower.specs.Holds.{IsBelow, Goes, same, Tests, Checks, Combines, single, product, quotient, operation_of, Way, To, Into, Tested, Lands, fresh, into, Bases, of_global, of_own, given, then_op, ends}
 use Rattle.vx_lower.specs.Builds.{Ready, Grows, Finishes, Opens, From, Puts, Branches, Guards, with_value}
-use Rattle.vx_lower.specs.Emits.{way_of, Aimed, Lasts, IsMoved, Delivers, Checked, Combined, Spare}
+use Rattle.vx_lower.specs.Emits.{way_of, Aimed, Lasts, IsMoved, Delivers, Checked, Combined, MakesBase, Stands, Spare}
 use Rattle.vx_lower.specs.declared.builder.Builder.{Builder}
 use Rattle.vx_lower.proofs.Ties.{below_on}
 use Rattle.vx_lower.proofs.Places.{length_more}
@@ -104,9 +107,9 @@ delivers_moved t o b b1 p r =
     let x = p r in
     record { grows = x.grows; kept = λ n. absurd (cc); step = λ B q f w. let s = x.step B q f w in record { start = s.start; opens = s.opens; holds = (refl, s.holds) } }
 
-pub checked_of : (words : List ℕ) (a : ℕ) (o : Operand) (t c : ℕ) (size : Operand) (b0 b1 b2 b3 b4 : Builder) → size ≡ size_at words a → (t ≡ length b0.banks) × (b1 ≡ with_value b0 General) → (Ready b1 → Puts (Place t a o) b1 b2) → (c ≡ length b2.banks) × (b3 ≡ with_value b2 Branch) → (Ready b3 → Guards (Compute (ToBranch Ltu) c o size) c ByIndex b3 b4) → Ready b0 → Checked words a o t b0 b4
-checked_of words a o t c size b0 b1 b2 b3 b4 es et pt ec pc r =
-    let s = sets_of b0 b1 b2 t General (Place t a o) et pt r in
+pub checked_of : (words : Sees) (a : ℕ) (o : Operand) (t c : ℕ) (size : Operand) (op : Op) (b0 b1 b2 b3 b4 : Builder) → size ≡ size_at words a → op ≡ place_op words t a o → (t ≡ length b0.banks) × (b1 ≡ with_value b0 General) → (Ready b1 → Puts op b1 b2) → (c ≡ length b2.banks) × (b3 ≡ with_value b2 Branch) → (Ready b3 → Guards (Compute (ToBranch Ltu) c o size) c ByIndex b3 b4) → Ready b0 → Checked words a o t b0 b4
+checked_of words a o t c size op b0 b1 b2 b3 b4 es eo et pt ec pc r =
+    let s = sets_of b0 b1 b2 t General (place_op words t a o) et (subst (λ z. Ready b1 → Puts z b1 b2) eo pt) r in
     let k = guarded_of b2 b3 b4 c ByIndex Branch (Compute (ToBranch Ltu) c o (size_at words a)) ec (subst (λ z. Ready b3 → Guards (Compute (ToBranch Ltu) c o z) c ByIndex b3 b4) es pc) s.grows.ready in
     let f = s.fresh in let l = s.below in let fc = k.fresh in let v = k.grows.values in
     record {
@@ -115,8 +118,27 @@ checked_of words a o t c size b0 b1 b2 b3 b4 es et pt ec pc r =
       step = λ below B q fin w.
           let s2 = k.step B q fin w in
           let s1 = s.step B s2.start (finishes_back B b2 b4 s.grows.ready k.grows fin) s2.opens in
-          record { start = s1.start; opens = s1.opens; holds = record { place = s2.start; no = s2.holds.0; c = c; goes = s1.holds; tests = s2.holds.1; stops = s2.holds.2; free = below_on (length b0.banks) t o (omega arith) below; sized = tt; above = omega arith; fresh = omega arith } };
+          record { start = s1.start; opens = s1.opens; holds = record { place = s2.start; no = s2.holds.0; c = c; goes = s1.holds; tests = s2.holds.1; stops = s2.holds.2; free = below_on (length b0.banks) t o (omega arith) below; above = omega arith; fresh = omega arith } };
     }
+
+pub made_base_of : (a : ℕ) (from : Operand) (v : ℕ) (b0 b1 b2 : Builder) → (v ≡ length b0.banks) × (b1 ≡ with_value b0 General) → (Ready b1 → Puts (Base v a from) b1 b2) → Ready b0 → MakesBase a from v b0 b2
+made_base_of a from v b0 b1 b2 e p r =
+    let s = sets_of b0 b1 b2 v General (Base v a from) e p r in let f = s.fresh in
+    record { grows = s.grows; fresh = omega arith; below = s.below; step = s.step }
+
+pub stands_global : (words : Sees) (a n v : ℕ) (b0 b1 : Builder) → seen_at words a ≡ GlobalArray n → (Ready b0 → MakesBase a (Number (pos 0)) v b0 b1) → Ready b0 → Stands words a v b0 b1
+stands_global words a n v b0 b1 e m r =
+    let x = m r in
+    record { grows = x.grows; step = λ B q f w. let s = x.step B q f w in record { start = s.start; opens = s.opens; holds = subst (λ z. Bases B a (length b0.banks) (length b1.banks) z v s.start q) (sym e) (of_global x.fresh x.below s.holds) } }
+
+pub stands_own : (words : Sees) (a n v : ℕ) (b0 b1 : Builder) → seen_at words a ≡ OwnArray n → (Ready b0 → MakesBase a Stack v b0 b1) → Ready b0 → Stands words a v b0 b1
+stands_own words a n v b0 b1 e m r =
+    let x = m r in
+    record { grows = x.grows; step = λ B q f w. let s = x.step B q f w in record { start = s.start; opens = s.opens; holds = subst (λ z. Bases B a (length b0.banks) (length b1.banks) z v s.start q) (sym e) (of_own x.fresh x.below s.holds) } }
+
+pub stands_handed : (words : Sees) (a base size : ℕ) (b : Builder) → seen_at words a ≡ Handed base size → Ready b → Stands words a base b b
+stands_handed words a base size b e r =
+    record { grows = grows_self b r; step = λ B q f w. record { start = q; opens = w; holds = subst (λ z. Bases B a (length b.banks) (length b.banks) z base q q) (sym e) (given (omega arith)) } }
 
 pub product_of : (a b : Operand) (dest : Option ℕ) (t u v : ℕ) (b0 b1 b2 b3 b4 b5 : Builder) → (u ≡ length b0.banks) × (b1 ≡ with_value b0 General) → (Ready b1 → Puts (Compute Mpylu u a b) b1 b2) → (v ≡ length b2.banks) × (b3 ≡ with_value b2 General) → (Ready b3 → Puts (Compute Mpyhs v a b) b3 b4) → (Ready b4 → Lasts (Compute Add t (Held u) (Held v)) dest t b4 b5) → Ready b0 → Combined Multiply a b dest t b0 b5
 product_of a b dest t u v b0 b1 b2 b3 b4 b5 eu pu ev pv pt r =

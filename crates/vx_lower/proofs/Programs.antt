@@ -10,7 +10,7 @@ use Rattle.vx_ast.specs.Accepted.{global_words, is_accepted}
 use Rattle.vx_flow.specs.declared.graph.Flow.{Flow}
 use Rattle.vx_lower.specs.FlowOf.{RunsAs}
 use Rattle.vx_lower.specs.Graphs.{FunctionWithin, AllGraphed}
-use Rattle.vx_lower.specs.Lowered.{global_of, AllLowered}
+use Rattle.vx_lower.specs.Lowered.{sees_of, global_of, AllLowered}
 use Rattle.vx_lower.proofs.Facts.{function_suits}
 use Rattle.vx_lower.proofs.PrintMaking.{begins_self}
 use Rattle.vx_lower.proofs.TrapBlocks.{got_map}
@@ -18,11 +18,11 @@ use Rattle.vx_lower.proofs.Whole.{lowering_holds}
 use Rattle.vx_lower.proofs.Within.{steps_in, function_within}
 
 -- the functions of an accepted program name what is there
-pub functions_within : (source : AProgram) → is_accepted (program_of source) ≡ true → (i : ℕ) (f : Function) → slice_get (program_of source).functions i ≡ Some f → FunctionWithin f
+pub functions_within : (source : AProgram) → is_accepted (program_of source) ≡ true → (i : ℕ) (f : Function) → slice_get (program_of source).functions i ≡ Some f → FunctionWithin (sees_of (program_of source) f) f
 functions_within source accepted i f e =
     let x = got_map function_of source.functions.items i f e in
     let s = function_suits (program_of source) accepted i (function_of x.0) (e ∙ ap Some (sym x.2)) in
-    subst FunctionWithin x.2 (function_within (program_of source) (function_of x.0) (steps_in x.0.body.items) s)
+    subst (λ z. FunctionWithin (sees_of (program_of source) z) z) x.2 (function_within (program_of source) (function_of x.0) (steps_in x.0.body.items) s)
 
 pub all_lowered : (source : AProgram) (flow : Flow) → flow.globals ≡ map global_of source.globals → flow.main ≡ source.main → AllGraphed (program_of source) (program_of source).functions flow.functions [] flow.texts → is_accepted (program_of source) ≡ true → AllLowered (program_of source) flow
 all_lowered source flow eg em x accepted = record {

@@ -1,30 +1,39 @@
 -- From a graph that is being made to the shape of the finished one.
-use Rattle.std.proofs.Common.{◌≡◌, ◌⊎◌, ℕ, zero, suc, ◌<◌, ◌≤◌, ℤ, pos, true, List, [], ◌∷◌, length, map, Option, Some, None, refl, sym, ap, ◌∙◌, subst, inl, inr, arith}
+use Rattle.std.proofs.Common.{◌≡◌, ◌⊎◌, ℕ, zero, suc, ◌+◌, ◌<◌, ◌≤◌, ℤ, pos, Bool, true, false, List, [], ◌∷◌, length, map, Option, Some, None, refl, sym, ap, ◌∙◌, subst, inl, inr, arith}
 use Rattle.std.specs.Prelude.{slice_get, option_map}
 use Rattle.std.proofs.lemmas.Bool.{cases_lt}
-use Rattle.std.proofs.lemmas.Option.{slice_get-map}
+use Rattle.std.proofs.lemmas.Option.{slice_get-map, get_or_from_slice_get}
 use Rattle.vx_base.specs.declared.arithmetic.Code.{Code}
 use Rattle.vx_base.specs.declared.arithmetic.Code.TheVariants.{Mov, ToBranch}
 use Rattle.vx_base.specs.declared.outcome.Trap.{Trap}
-use Rattle.vx_flow.specs.declared.graph.Bank.TheVariants.{Branch}
+use Rattle.vx_flow.specs.declared.graph.Bank.TheVariants.{General, Branch}
 use Rattle.vx_flow.specs.declared.graph.Operand.{Operand}
 use Rattle.vx_flow.specs.declared.graph.Operand.TheVariants.{Held, Number, Stack}
 use Rattle.vx_flow.specs.declared.graph.Op.{Op}
-use Rattle.vx_flow.specs.declared.graph.Op.TheVariants.{Compute, Select, Place, Load, Store, More, Input, Text, Decimal, Across}
+use Rattle.vx_flow.specs.declared.graph.Op.TheVariants.{Compute, Select, Place, Load, Store, More, Input, Text, Decimal, Across, Base, PlaceIn}
 use Rattle.vx_flow.specs.declared.graph.Exit.{Exit}
 use Rattle.vx_flow.specs.declared.graph.Exit.TheVariants.{Goto, Split, Call, Return, Ends}
 use Rattle.vx_flow.specs.declared.graph.Block.{Block}
 use Rattle.vx_flow.specs.declared.graph.Graph.{Graph}
 use Rattle.vx_flow.specs.declared.graph.Flow.{Flow}
 use Rattle.vx_flow.specs.Effects.{IsIn, value_in, reads, writes}
-use Rattle.vx_flow.specs.Sound.{HasOperation, HasExit, operands_of, operands_of_exit, tests_of, tests_of_exit, bank_written, results_of_exit, targets_of, arrays_of, IsAccess, loads, stores, is_local, IsOperandOf, IsPlace, ReadAsPlace, Sound, Callable}
+use Rattle.vx_flow.specs.Sound.{HasOperation, HasExit, operands_of, operands_of_exit, tests_of, tests_of_exit, bank_written, results_of_exit, targets_of, arrays_of, base_of, base_at, IsAccess, loads, stores, is_local, is_base, is_base_operand, IsOperandOf, MakesPlace, by_itself, by_base, IsPlace, in_own, in_handed, IsBase, given, made, IsMadeFrom, ReadAsPlace, Sound}
 use Rattle.vx_flow.proofs.Members.{in_either}
 use Rattle.vx_flow.proofs.SoundLaw.{sound_of}
+use Rattle.vx_flow.specs.declared.graph.Array.{Array}
+use Rattle.vx_flow.proofs.SoundFlowLaw.{tested_base, base_tested}
+use Rattle.vx_lower.specs.declared.seen.Seen.{Seen}
+use Rattle.vx_lower.specs.declared.seen.Seen.TheVariants.{GlobalArray, OwnArray, Handed}
+use Rattle.vx_lower.specs.Seen.{Sees, seen_at, array_for, arrays_from}
+use Rattle.vx_lower.proofs.Passing.{there_is}
+use Rattle.vx_lower.proofs.Bodies.{length_arrays, array_at, get_array}
 use Rattle.vx_lower.specs.FlowOf.{IsEdge}
 use Rattle.vx_lower.specs.Holds.{ends, jump}
 use Rattle.vx_lower.specs.Named.{Known, TakesArguments}
-use Rattle.vx_lower.specs.Fits.{Role, Scalar, Test, PlaceOf, bank_of_role, HasRole, OperandFits, PlaceFits, role_written, OpFits, Has, opened, finished, TargetFits, ExitFits, split_targets, Fits, Shaped}
-use Rattle.vx_lower.specs.Shape.{Settled, finally, WellShaped}
+use Rattle.vx_ast.specs.declared.tree.Takes.{Takes as Kind}
+use Rattle.vx_ast.specs.declared.tree.Takes.TheVariants.{Number as TakesNumber, Array as TakesArray}
+use Rattle.vx_lower.specs.Fits.{Role, Scalar, Test, PlaceOf, Stand, bank_of_role, HasRole, OperandFits, PlaceFits, NotHanded, FromFits, BaseFits, IsHandedBase, StandFits, ArgumentsFit, role_written, OpFits, Has, opened, finished, TargetFits, ExitFits, split_targets, Fits, Shaped}
+use Rattle.vx_lower.specs.Shape.{Settled, finally, HandsOver, ArePassed, WellShaped}
 use Rattle.vx_lower.specs.declared.builder.Builder.{Builder}
 use Rattle.vx_lower.proofs.Fitting.{target_fits, split_is_target, fits_closed}
 
@@ -111,7 +120,56 @@ no_operand roles v a o p f m =
     let e : PlaceOf a ≡ Scalar = role_is roles v (PlaceOf a) Scalar p g in
     cc
 
-module _ (k : Known) (texts : ℕ) (roles : List Role) (b : Builder) (g : Graph) (f : Fits k texts roles b) (none : b.ops ≡ []) (s : Settled b.blocks g.blocks) (banks : g.banks ≡ b.banks) (arrays : length g.arrays ≡ k.arrays) (parameters : (v : ℕ) → IsIn v g.parameters → v < k.scalars) where
+-- nor is what holds where an array stands
+no_number : (roles : List Role) (v : ℕ) (o : Operand) → HasRole roles v Stand → OperandFits roles o → IsIn v (value_in o) → ⊥
+no_number roles v o p f m =
+    let g : HasRole roles v Scalar = subst (OperandFits roles) (in_value v o m) f in
+    let e : Stand ≡ Scalar = role_is roles v Stand Scalar p g in
+    cc
+
+written_no_stand : (code : Code) → role_written code ≡ Stand → ⊥
+written_no_stand (ToBranch compare) e = cc
+written_no_stand code e = cc
+
+in_one : {A : Type 0} (x y : A) → IsIn x (y ∷ []) → x ≡ y
+in_one x y (inl e) = e
+in_one x y (inr m) = absurd m
+
+no_some : {A : Type 0} {x : A} → None ≡ Some x → ⊥
+no_some e = cc
+
+module _ {words : Sees} (k : Known words) (texts : ℕ) (roles : List Role) (b : Builder) (g : Graph) (f : Fits k texts roles b) (none : b.ops ≡ []) (s : Settled b.blocks g.blocks) (banks : g.banks ≡ b.banks) (arrays : g.arrays ≡ arrays_from 0 words.arrays) (passed : ArePassed words g.parameters) where
+  -- the array of a graph that is seen
+  array_is_there : (a : ℕ) (x : Seen) → slice_get words.arrays a ≡ Some x → slice_get g.arrays a ≡ Some (array_for a x)
+  array_is_there a x e = let z : 0 + a ≡ a = omega arith in ap (λ r. slice_get r a) arrays ∙ get_array 0 words.arrays a x e ∙ ap (λ n. Some (array_for n x)) z
+
+  seen_there : (a : ℕ) → a < length words.arrays → slice_get words.arrays a ≡ Some (seen_at words a)
+  seen_there a l = there_is words.arrays a (OwnArray 0) l
+
+  many_arrays : length g.arrays ≡ length words.arrays
+  many_arrays = ap length arrays ∙ length_arrays 0 words.arrays
+
+  base_seen : (a v : ℕ) → base_at g.arrays a ≡ Some v → (size : ℕ) × (slice_get words.arrays a ≡ Some (Handed v size))
+  base_seen a v e = one (slice_get g.arrays a) refl
+    where
+      by : (x : Seen) → slice_get words.arrays a ≡ Some x → (array_for a x).base ≡ Some v → (size : ℕ) × (slice_get words.arrays a ≡ Some (Handed v size))
+      by (GlobalArray n) q r = absurd (no_some r)
+      by (OwnArray n) q r = absurd (no_some r)
+      by (Handed base size) q r = let is : base ≡ v = cc in (size, q ∙ ap (λ z. Some (Handed z size)) is)
+
+      one : (o : Option Array) → slice_get g.arrays a ≡ o → (size : ℕ) × (slice_get words.arrays a ≡ Some (Handed v size))
+      one None q = absurd (no_some (sym (ap base_of q) ∙ e))
+      one (Some array) q =
+          let y = array_at 0 words.arrays a array (ap (λ r. slice_get r a) (sym arrays) ∙ q) in
+          let z : 0 + a ≡ a = omega arith in
+          by y.0 y.1 (sym (ap (λ n. (array_for n y.0).base) z) ∙ sym (ap (λ r. r.base) y.2) ∙ sym (ap base_of q) ∙ e)
+
+  stand_of : (a v size : ℕ) → slice_get words.arrays a ≡ Some (Handed v size) → HasRole roles v Stand
+  stand_of a v size e = (f.handed a v size (get_or_from_slice_get words.arrays a (Handed v size) (OwnArray 0) e)).0
+
+  size_of_role : (a v size : ℕ) → slice_get words.arrays a ≡ Some (Handed v size) → HasRole roles size Scalar
+  size_of_role a v size e = (f.handed a v size (get_or_from_slice_get words.arrays a (Handed v size) (OwnArray 0) e)).1
+
   has_bank : (v : ℕ) (role : Role) → HasRole roles v role → slice_get g.banks v ≡ Some (bank_of_role role)
   has_bank v role h = ap (λ z. slice_get z v) (banks ∙ f.banks) ∙ slice_get-map bank_of_role roles v ∙ ap (option_map bank_of_role) h
 
@@ -158,9 +216,9 @@ module _ (k : Known) (texts : ℕ) (roles : List Role) (b : Builder) (g : Graph)
   operand_of (Number n) h = h
   operand_of Stack h = h
 
-  place_of : (a : ℕ) (o : Operand) → PlaceFits roles a o → IsOperandOf g o
+  place_of : (a : ℕ) (o : Operand) → PlaceFits k roles a o → IsOperandOf g o
   place_of a (Held v) h = has_bank v (PlaceOf a) h
-  place_of a (Number n) h = h
+  place_of a (Number n) h = tt
   place_of a Stack h = h
 
   first_of_two : (x y z : Operand) → IsOperandOf g y → IsOperandOf g z → IsIn x (y ∷ z ∷ []) → IsOperandOf g x
@@ -176,6 +234,14 @@ module _ (k : Known) (texts : ℕ) (roles : List Role) (b : Builder) (g : Graph)
   computes Mov t l r x h m = only x l (operand_of l h.1) m
   computes code t l r x h m = first_of_two x l r (operand_of l h.1) (operand_of r h.2) m
 
+  base_fits_role : (a u : ℕ) → a < length words.arrays → BaseFits (seen_at words a) u → HasRole roles u Stand
+  base_fits_role a u l h = by (seen_at words a) refl h
+    where
+      by : (x : Seen) → seen_at words a ≡ x → BaseFits x u → HasRole roles u Stand
+      by (GlobalArray n) e h = absurd h
+      by (OwnArray n) e h = absurd h
+      by (Handed base size) e h = subst (λ z. HasRole roles z Stand) (sym h) (f.handed a base size e).0
+
   operands : (op : Op) (x : Operand) → OpFits k texts roles op → IsIn x (operands_of op) → IsOperandOf g x
   operands (Compute code t l r) x h m = computes code t l r x h m
   operands (Select t test l r) x h m = absurd h
@@ -187,6 +253,8 @@ module _ (k : Known) (texts : ℕ) (roles : List Role) (b : Builder) (g : Graph)
   operands (Text n) x h m = absurd m
   operands (Decimal o) x h m = only x o (operand_of o h) m
   operands (Across t v) x h m = absurd h
+  operands (Base t a y) x h m = absurd m
+  operands (PlaceIn t a u i) x h m = first_of_two x i (Held u) (operand_of i h.3) (has_bank u Stand (base_fits_role a u h.1 h.2)) m
 
   one_value : (u v : ℕ) (role : Role) → HasRole roles v role → IsIn u (v ∷ []) → slice_get g.banks u ≡ Some (bank_of_role role)
   one_value u v role h (inl e) = subst (λ z. slice_get g.banks z ≡ Some (bank_of_role role)) (sym e) (has_bank v role h)
@@ -203,6 +271,8 @@ module _ (k : Known) (texts : ℕ) (roles : List Role) (b : Builder) (g : Graph)
   results (Text n) v h m = absurd m
   results (Decimal o) v h m = absurd m
   results (Across t u) v h m = absurd h
+  results (Base t a x) v h m = one_value v t Stand h.0 m
+  results (PlaceIn t a u i) v h m = one_value v t (PlaceOf a) h.0 m
 
   tests : (op : Op) (v : ℕ) → OpFits k texts roles op → IsIn v (tests_of op) → ⊥
   tests (Compute code t l r) v h m = m
@@ -215,9 +285,11 @@ module _ (k : Known) (texts : ℕ) (roles : List Role) (b : Builder) (g : Graph)
   tests (Text n) v h m = m
   tests (Decimal o) v h m = m
   tests (Across t u) v h m = m
+  tests (Base t a x) v h m = m
+  tests (PlaceIn t a u i) v h m = m
 
-  array_there : (a c : ℕ) → c < k.arrays → IsIn a (c ∷ []) → a < length g.arrays
-  array_there a c l (inl e) = omega arith
+  array_there : (a c : ℕ) → c < length words.arrays → IsIn a (c ∷ []) → a < length g.arrays
+  array_there a c l (inl e) = let q = many_arrays in omega arith
   array_there a c l (inr m) = absurd m
 
   arrays_there : (op : Op) (a : ℕ) → OpFits k texts roles op → IsIn a (arrays_of op) → a < length g.arrays
@@ -231,18 +303,42 @@ module _ (k : Known) (texts : ℕ) (roles : List Role) (b : Builder) (g : Graph)
   arrays_there (Text n) a h m = absurd m
   arrays_there (Decimal o) a h m = absurd m
   arrays_there (Across t u) a h m = absurd m
+  arrays_there (Base t c x) a h m = array_there a c h.1 m
+  arrays_there (PlaceIn t c u i) a h m = array_there a c h.1 m
 
   -- exits
 
-  exit_operands : (exit : Exit) (x : Operand) → ExitFits k roles (length b.blocks) exit → IsIn x (operands_of_exit exit) → OperandFits roles x
+  -- what an exit reads is a number, or where an array stands
+  abbrev Passes : Operand → Type 0
+  Passes x = OperandFits roles x ⊎ StandFits roles x
+
+  argument_passes : (takes : List Kind) (os : List Operand) (x : Operand) → ArgumentsFit roles takes os → IsIn x os → Passes x
+  argument_passes [] [] x h m = absurd m
+  argument_passes [] (o ∷ os) x h m = absurd h
+  argument_passes (TakesNumber ∷ takes) [] x h m = absurd m
+  argument_passes (TakesNumber ∷ takes) (o ∷ os) x h (inl e) = inl (subst (OperandFits roles) (sym e) h.0)
+  argument_passes (TakesNumber ∷ takes) (o ∷ os) x h (inr m) = argument_passes takes os x h.1 m
+  argument_passes (TakesArray ∷ takes) [] x h m = absurd m
+  argument_passes (TakesArray ∷ takes) (o ∷ []) x h m = absurd h
+  argument_passes (TakesArray ∷ takes) (o ∷ n ∷ os) x h (inl e) = inr (subst (StandFits roles) (sym e) h.0)
+  argument_passes (TakesArray ∷ takes) (o ∷ n ∷ os) x h (inr (inl e)) = inl (subst (OperandFits roles) (sym e) h.1)
+  argument_passes (TakesArray ∷ takes) (o ∷ n ∷ os) x h (inr (inr m)) = argument_passes takes os x h.2 m
+
+  passes_of : (x : Operand) → Passes x → IsOperandOf g x
+  passes_of x (inl h) = operand_of x h
+  passes_of (Held v) (inr h) = has_bank v Stand h
+  passes_of (Number n) (inr h) = tt
+  passes_of Stack (inr h) = absurd h
+
+  exit_operands : (exit : Exit) (x : Operand) → ExitFits k roles (length b.blocks) exit → IsIn x (operands_of_exit exit) → Passes x
   exit_operands (Goto c) x h m = absurd m
   exit_operands (Split test c d) x h m = absurd m
-  exit_operands (Call n os result c) x h m = h.1 x m
-  exit_operands (Return o) x h (inl e) = subst (OperandFits roles) (sym e) h
+  exit_operands (Call n os result c) x h m = argument_passes h.0.0 os x h.0.2 m
+  exit_operands (Return o) x h (inl e) = inl (subst (OperandFits roles) (sym e) h)
   exit_operands (Return o) x h (inr m) = absurd m
   exit_operands (Ends trap) x h m = absurd m
 
-  exit_operands_of : (exit : Exit) (x : Operand) → ExitIs exit → IsIn x (operands_of_exit exit) → OperandFits roles x
+  exit_operands_of : (exit : Exit) (x : Operand) → ExitIs exit → IsIn x (operands_of_exit exit) → Passes x
   exit_operands_of exit x (fitting h) m = exit_operands exit x h m
   exit_operands_of exit x (jumping c l w e) m = absurd (subst (λ z. IsIn x (operands_of_exit z)) e m)
   exit_operands_of exit x (returning e) m = exit_operands (Return (Number (pos 0))) x tt (subst (λ z. IsIn x (operands_of_exit z)) e m)
@@ -250,7 +346,7 @@ module _ (k : Known) (texts : ℕ) (roles : List Role) (b : Builder) (g : Graph)
 
   call_results : (n c v : ℕ) (os : List Operand) (result : Option ℕ) → ExitFits k roles (length b.blocks) (Call n os result c) → IsIn v (results_of_exit (Call n os result c)) → HasRole roles v Scalar
   call_results n c v os None h m = absurd m
-  call_results n c v os (Some u) h (inl e) = subst (λ z. HasRole roles z Scalar) (sym e) h.2
+  call_results n c v os (Some u) h (inl e) = subst (λ z. HasRole roles z Scalar) (sym e) h.1
   call_results n c v os (Some u) h (inr m) = absurd m
 
   exit_results : (exit : Exit) (v : ℕ) → ExitFits k roles (length b.blocks) exit → IsIn v (results_of_exit exit) → HasRole roles v Scalar
@@ -293,7 +389,8 @@ module _ (k : Known) (texts : ℕ) (roles : List Role) (b : Builder) (g : Graph)
   -- places
 
   role_of_place : (v a : ℕ) → IsPlace g v a → HasRole roles v (PlaceOf a)
-  role_of_place v a p = (op_fits (Place v a p.index) p.made).0
+  role_of_place v a (in_own i at own) = (op_fits (Place v a i) at).0
+  role_of_place v a (in_handed u i at) = (op_fits (PlaceIn v a u i) at).0
 
   same_role : (v a t : ℕ) (role : Role) → HasRole roles v (PlaceOf a) → HasRole roles t role → IsIn v (t ∷ []) → PlaceOf a ≡ role
   same_role v a t role p h (inl e) = role_is roles v (PlaceOf a) role p (subst (λ z. HasRole roles z role) (sym e) h)
@@ -302,17 +399,13 @@ module _ (k : Known) (texts : ℕ) (roles : List Role) (b : Builder) (g : Graph)
   no_scalar : (v a t : ℕ) → HasRole roles v (PlaceOf a) → HasRole roles t Scalar → IsIn v (t ∷ []) → ⊥
   no_scalar v a t p h m = let e : PlaceOf a ≡ Scalar = same_role v a t Scalar p h m in cc
 
-  place_written : (v a : ℕ) (op : Op) → HasRole roles v (PlaceOf a) → OpFits k texts roles op → IsIn v (writes op) → (i : Operand) × (op ≡ Place v a i)
+  place_written : (v a : ℕ) (op : Op) → HasRole roles v (PlaceOf a) → OpFits k texts roles op → IsIn v (writes op) → MakesPlace v a op
   place_written v a (Compute code t l r) p h m = absurd (written_no_place code a (sym (same_role v a t (role_written code) p h.0 m)))
   place_written v a (Select t test l r) p h m = absurd h
   place_written v a (Place t c i) p h m =
       let e : PlaceOf a ≡ PlaceOf c = same_role v a t (PlaceOf c) p h.0 m in
       let q : a ≡ c = cc in
-      (i, ap (λ z. Place z c i) (sym (value_is m)) ∙ ap (λ z. Place v z i) (sym q))
-    where
-      value_is : IsIn v (t ∷ []) → v ≡ t
-      value_is (inl e) = e
-      value_is (inr z) = absurd z
+      subst (λ z. MakesPlace v a (Place z c i)) (in_one v t m) (subst (λ z. MakesPlace v a (Place v z i)) q by_itself)
   place_written v a (Load t c o dismissible) p h m = absurd (no_scalar v a t p h.0 m)
   place_written v a (Store c o x) p h m = absurd m
   place_written v a (More t) p h m = absurd (no_scalar v a t p h m)
@@ -320,14 +413,19 @@ module _ (k : Known) (texts : ℕ) (roles : List Role) (b : Builder) (g : Graph)
   place_written v a (Text n) p h m = absurd m
   place_written v a (Decimal o) p h m = absurd m
   place_written v a (Across t u) p h m = absurd h
+  place_written v a (Base t c x) p h m = let e : PlaceOf a ≡ Stand = same_role v a t Stand p h.0 m in absurd (cc)
+  place_written v a (PlaceIn t c u i) p h m =
+      let e : PlaceOf a ≡ PlaceOf c = same_role v a t (PlaceOf c) p h.0 m in
+      let q : a ≡ c = cc in
+      subst (λ z. MakesPlace v a (PlaceIn z c u i)) (in_one v t m) (subst (λ z. MakesPlace v a (PlaceIn v z u i)) q by_base)
 
   computed : (v a : ℕ) (code : Code) (t : ℕ) (l r : Operand) → HasRole roles v (PlaceOf a) → OpFits k texts roles (Compute code t l r) → IsIn v (reads (Compute code t l r)) → ⊥
   computed v a Mov t l r p h m = no_operand roles v a l p h.1 m
   computed v a code t l r p h m = elim (in_either v (value_in l) (value_in r) m) [ inl w ↦ no_operand roles v a l p h.1 w | inr w ↦ no_operand roles v a r p h.2 w ]
 
   -- a value that is a place is read as a place of its own array
-  array_is : (v a c : ℕ) (o : Operand) → HasRole roles v (PlaceOf a) → PlaceFits roles c o → o ≡ Held v → c ≡ a
-  array_is v a c o p h e = let q : PlaceOf c ≡ PlaceOf a = role_is roles v (PlaceOf c) (PlaceOf a) (subst (PlaceFits roles c) e h) p in cc
+  array_is : (v a c : ℕ) (o : Operand) → HasRole roles v (PlaceOf a) → PlaceFits k roles c o → o ≡ Held v → c ≡ a
+  array_is v a c o p h e = let q : PlaceOf c ≡ PlaceOf a = role_is roles v (PlaceOf c) (PlaceOf a) (subst (PlaceFits k roles c) e h) p in cc
 
   place_read : (v a : ℕ) (op : Op) → HasRole roles v (PlaceOf a) → OpFits k texts roles op → IsIn v (reads op) → ReadAsPlace v a op
   place_read v a (Compute code t l r) p h m = absurd (computed v a code t l r p h m)
@@ -354,37 +452,189 @@ module _ (k : Known) (texts : ℕ) (roles : List Role) (b : Builder) (g : Graph)
   place_read v a (Text n) p h m = absurd m
   place_read v a (Decimal o) p h m = absurd (no_operand roles v a o p h m)
   place_read v a (Across t u) p h m = absurd h
+  place_read v a (Base t c x) p h m = absurd m
+  place_read v a (PlaceIn t c u i) p h m = elim (in_either v (value_in i) (u ∷ []) m) [
+    | inl w ↦ absurd (no_operand roles v a i p h.3 w)
+    | inr w ↦ let e : PlaceOf a ≡ Stand = role_is roles v (PlaceOf a) Stand p (subst (λ z. HasRole roles z Stand) (sym (in_one v u w)) (base_fits_role c u h.1 h.2)) in absurd (cc)
+  ]
+
+  no_passes : (v a : ℕ) (x : Operand) → HasRole roles v (PlaceOf a) → x ≡ Held v → Passes x → ⊥
+  no_passes v a x p e (inl h) = no_operand roles v a (Held v) p (subst (OperandFits roles) e h) (inl refl)
+  no_passes v a x p e (inr h) = let q : PlaceOf a ≡ Stand = role_is roles v (PlaceOf a) Stand p (subst (StandFits roles) e h) in cc
 
   no_exit : (v a : ℕ) (exit : Exit) → HasRole roles v (PlaceOf a) → ExitIs exit → IsIn (Held v) (operands_of_exit exit) ⊎ IsIn v (results_of_exit exit) → ⊥
-  no_exit v a exit p x (inl m) = no_operand roles v a (Held v) p (exit_operands_of exit (Held v) x m) (inl refl)
+  no_exit v a exit p x (inl m) = no_passes v a (Held v) p refl (exit_operands_of exit (Held v) x m)
   no_exit v a exit p x (inr m) = let e : PlaceOf a ≡ Scalar = role_is roles v (PlaceOf a) Scalar p (exit_results_of exit v x m) in cc
 
-  accessed : (a : ℕ) (p : Operand) (op : Op) → IsAccess a p op → OpFits k texts roles op → PlaceFits roles a p
+  accessed : (a : ℕ) (p : Operand) (op : Op) → IsAccess a p op → OpFits k texts roles op → PlaceFits k roles a p
   accessed a p op loads h = h.2
   accessed a p op stores h = h.1
 
-  placed : (a : ℕ) (p : Operand) → PlaceFits roles a p → is_local g.arrays a ≡ true → ((n : ℤ) × (p ≡ Number n)) ⊎ ((v : ℕ) × (p ≡ Held v) × IsPlace g v a)
-  placed a (Held v) h own = let m = f.made v a h in inr (v, refl, record { index = m.0; made = is_there (Place v a m.0) m.1; own = own })
+  -- a place that was made is one
+  placed_there : (v a : ℕ) (op : Op) → MakesPlace v a op → HasOperation g op → is_local g.arrays a ≡ true → IsPlace g v a
+  placed_there v a op (by_itself {i = i}) at own = in_own i at own
+  placed_there v a op (by_base {u = u} {i = i}) at own = in_handed u i at
+
+  placed : (a : ℕ) (p : Operand) → PlaceFits k roles a p → is_local g.arrays a ≡ true → ((n : ℤ) × (p ≡ Number n)) ⊎ ((v : ℕ) × (p ≡ Held v) × IsPlace g v a)
+  placed a (Held v) h own = let m = f.made v a h in inr (v, refl, placed_there v a m.0 m.1 (is_there m.0 m.2) own)
   placed a (Number n) h own = inl (n, refl)
   placed a Stack h own = absurd h
 
+  -- arrays that are handed over
+
+  bare_of : (a : ℕ) → a < length words.arrays → NotHanded (seen_at words a) → base_at g.arrays a ≡ None
+  bare_of a l h = by (seen_at words a) refl h
+    where
+      by : (x : Seen) → seen_at words a ≡ x → NotHanded x → base_at g.arrays a ≡ None
+      by (GlobalArray n) e h = ap base_of (array_is_there a (GlobalArray n) (seen_there a l ∙ ap Some e))
+      by (OwnArray n) e h = ap base_of (array_is_there a (OwnArray n) (seen_there a l ∙ ap Some e))
+      by (Handed base size) e h = absurd h
+
+  based_of : (a u : ℕ) → a < length words.arrays → BaseFits (seen_at words a) u → base_at g.arrays a ≡ Some u
+  based_of a u l h = by (seen_at words a) refl h
+    where
+      by : (x : Seen) → seen_at words a ≡ x → BaseFits x u → base_at g.arrays a ≡ Some u
+      by (GlobalArray n) e h = absurd h
+      by (OwnArray n) e h = absurd h
+      by (Handed base size) e h = ap base_of (array_is_there a (Handed base size) (seen_there a l ∙ ap Some e)) ∙ ap Some (sym h)
+
+  from_of : (a : ℕ) (x : Operand) → a < length words.arrays → FromFits (seen_at words a) x → IsMadeFrom g a x
+  from_of a x l h = by (seen_at words a) refl h
+    where
+      by : (y : Seen) → seen_at words a ≡ y → FromFits y x → IsMadeFrom g a x
+      by (GlobalArray n) e h = record { array = array_for a (GlobalArray n); is = array_is_there a (GlobalArray n) (seen_there a l ∙ ap Some e); bare = refl; from = h }
+      by (OwnArray n) e h = record { array = array_for a (OwnArray n); is = array_is_there a (OwnArray n) (seen_there a l ∙ ap Some e); bare = refl; from = h }
+      by (Handed base size) e h = absurd h
+
+  placed_by : (a u : ℕ) (p : Operand) → PlaceFits k roles a p → base_at g.arrays a ≡ Some u → (v : ℕ) × (p ≡ Held v) × IsPlace g v a
+  placed_by a u (Held v) h e = let m = f.made v a h in (v, refl, by m.0 m.1 (is_there m.0 m.2))
+    where
+      by : (op : Op) → MakesPlace v a op → HasOperation g op → IsPlace g v a
+      by op (by_base {u = w} {i = i}) at = in_handed w i at
+      by op (by_itself {i = i}) at = let fit = op_fits (Place v a i) at in absurd (no_some (sym (bare_of a fit.1 fit.3) ∙ e))
+  placed_by a u (Number n) h e =
+      let y = base_seen a u e in
+      let same : Some (Handed u y.0) ≡ Some (GlobalArray h.0) = sym y.1 ∙ h.1 in
+      absurd (no_global same)
+    where
+      no_global : {c m : ℕ} → Some (Handed u c) ≡ Some (GlobalArray m) → ⊥
+      no_global r = cc
+  placed_by a u Stack h e = absurd h
+
+  handed : (a v : ℕ) (array : Array) → slice_get g.arrays a ≡ Some array → array.base ≡ Some v → (array.global ≡ false) × (array.words ≡ 0) × IsIn v g.parameters
+  handed a v array at e =
+      let y = base_seen a v (ap base_of at ∙ e) in
+      let same : array ≡ array_for a (Handed v y.0) = same_item array (array_for a (Handed v y.0)) (slice_get g.arrays a) at (array_is_there a (Handed v y.0) y.1) in
+      (ap (λ z. z.global) same, ap (λ z. z.words) same, passed.bases a v y.0 y.1)
+
+  -- bases
+
+  role_of_base : (v : ℕ) → IsBase g v → HasRole roles v Stand
+  role_of_base v (given a e) = let y = base_seen a v e in stand_of a v y.0 y.1
+  role_of_base v (made a x at) = (op_fits (Base v a x) at).0
+
+  same_stand : (v t : ℕ) (role : Role) → HasRole roles v Stand → HasRole roles t role → IsIn v (t ∷ []) → Stand ≡ role
+  same_stand v t role p h m = role_is roles v Stand role p (subst (λ z. HasRole roles z role) (sym (in_one v t m)) h)
+
+  no_scalar_stand : (v t : ℕ) → HasRole roles v Stand → HasRole roles t Scalar → IsIn v (t ∷ []) → ⊥
+  no_scalar_stand v t p h m = let e : Stand ≡ Scalar = same_stand v t Scalar p h m in cc
+
+  base_written : (v : ℕ) (op : Op) → HasRole roles v Stand → OpFits k texts roles op → IsIn v (writes op) → (a : ℕ) × (x : Operand) × (op ≡ Base v a x)
+  base_written v (Compute code t l r) p h m = absurd (written_no_stand code (sym (same_stand v t (role_written code) p h.0 m)))
+  base_written v (Select t test l r) p h m = absurd h
+  base_written v (Place t c i) p h m = let e : Stand ≡ PlaceOf c = same_stand v t (PlaceOf c) p h.0 m in absurd (cc)
+  base_written v (Load t c o dismissible) p h m = absurd (no_scalar_stand v t p h.0 m)
+  base_written v (Store c o x) p h m = absurd m
+  base_written v (More t) p h m = absurd (no_scalar_stand v t p h m)
+  base_written v (Input t) p h m = absurd (no_scalar_stand v t p h m)
+  base_written v (Text n) p h m = absurd m
+  base_written v (Decimal o) p h m = absurd m
+  base_written v (Across t u) p h m = absurd h
+  base_written v (Base t c x) p h m = (c, x, ap (λ z. Base z c x) (sym (in_one v t m)))
+  base_written v (PlaceIn t c u i) p h m = let e : Stand ≡ PlaceOf c = same_stand v t (PlaceOf c) p h.0 m in absurd (cc)
+
+  no_place_stand : (v a : ℕ) (o : Operand) → HasRole roles v Stand → PlaceFits k roles a o → IsIn v (value_in o) → ⊥
+  no_place_stand v a o p h m = let e : Stand ≡ PlaceOf a = role_is roles v Stand (PlaceOf a) p (subst (PlaceFits k roles a) (in_value v o m) h) in cc
+
+  computes_no_base : (v : ℕ) (code : Code) (t : ℕ) (l r : Operand) → HasRole roles v Stand → OpFits k texts roles (Compute code t l r) → IsIn v (reads (Compute code t l r)) → ⊥
+  computes_no_base v Mov t l r p h m = no_number roles v l p h.1 m
+  computes_no_base v code t l r p h m = elim (in_either v (value_in l) (value_in r) m) [ inl w ↦ no_number roles v l p h.1 w | inr w ↦ no_number roles v r p h.2 w ]
+
+  base_read : (v : ℕ) (op : Op) → HasRole roles v Stand → OpFits k texts roles op → IsIn v (reads op) → (w a : ℕ) × (i : Operand) × (op ≡ PlaceIn w a v i) × (i ≡ Held v → ⊥)
+  base_read v (Compute code t l r) p h m = absurd (computes_no_base v code t l r p h m)
+  base_read v (Select t test l r) p h m = absurd h
+  base_read v (Place t c i) p h m = absurd (no_number roles v i p h.2 m)
+  base_read v (Load t c o dismissible) p h m = absurd (no_place_stand v c o p h.2 m)
+  base_read v (Store c o u) p h m = elim (in_either v (value_in o) (value_in u) m) [ inl w ↦ absurd (no_place_stand v c o p h.1 w) | inr w ↦ absurd (no_number roles v u p h.2 w) ]
+  base_read v (More t) p h m = absurd m
+  base_read v (Input t) p h m = absurd m
+  base_read v (Text n) p h m = absurd m
+  base_read v (Decimal o) p h m = absurd (no_number roles v o p h m)
+  base_read v (Across t u) p h m = absurd h
+  base_read v (Base t c x) p h m = absurd m
+  base_read v (PlaceIn t c u i) p h m = elim (in_either v (value_in i) (u ∷ []) m) [
+    | inl w ↦ absurd (no_number roles v i p h.3 w)
+    | inr w ↦ (t, c, i, ap (λ z. PlaceIn t c z i) (sym (in_one v u w)), λ e. no_number roles v i p h.3 (subst (λ z. IsIn v (value_in z)) (sym e) (inl refl)))
+  ]
+
+  -- the roles of parameters
+  role_of_parameter : (v : ℕ) → IsIn v g.parameters → HasRole roles v Scalar ⊎ IsHandedBase words v
+  role_of_parameter v m = elim (passed.known v m) [
+    | inl l ↦ inl (f.scalars v l)
+    | inr y ↦ elim y.4 [
+      | inl e ↦ inr (y.0, y.2, y.3 ∙ ap (λ z. Some (Handed z y.2)) (sym e))
+      | inr e ↦ inl (subst (λ z. HasRole roles z Scalar) (sym e) (size_of_role y.0 y.1 y.2 y.3))
+    ]
+  ]
+
+  parameter_general : (v : ℕ) → IsIn v g.parameters → slice_get g.banks v ≡ Some General
+  parameter_general v m = elim (role_of_parameter v m) [ inl h ↦ has_bank v Scalar h | inr y ↦ has_bank v Stand (stand_of y.0 v y.1 y.2) ]
+
+  place_no_parameter : (v a : ℕ) → HasRole roles v (PlaceOf a) → IsIn v g.parameters → ⊥
+  place_no_parameter v a p m = elim (role_of_parameter v m) [
+    | inl h ↦ let e : PlaceOf a ≡ Scalar = role_is roles v (PlaceOf a) Scalar p h in cc
+    | inr y ↦ let e : PlaceOf a ≡ Stand = role_is roles v (PlaceOf a) Stand p (stand_of y.0 v y.1 y.2) in cc
+  ]
+
+  base_no_parameter : (v a : ℕ) (x : Operand) → HasOperation g (Base v a x) → IsIn v g.parameters → ⊥
+  base_no_parameter v a x at m = let h = op_fits (Base v a x) at in elim (role_of_parameter v m) [
+    | inl r ↦ let e : Stand ≡ Scalar = role_is roles v Stand Scalar h.0 r in cc
+    | inr y ↦ h.3 y
+  ]
+
+  returned_no_base : (v : ℕ) (x : Operand) → HasRole roles v Stand → x ≡ Held v → ExitIs (Return x) → ⊥
+  returned_no_base v x p e (fitting h) = no_number roles v (Held v) p (subst (OperandFits roles) e h) (inl refl)
+  returned_no_base v x p e (jumping c l w q) = cc
+  returned_no_base v x p e (returning q) = let is : Number (pos 0) ≡ Held v = let r : Return x ≡ Return (Number (pos 0)) = q in let y : x ≡ Number (pos 0) = cc in sym y ∙ e in cc
+  returned_no_base v x p e (stopping trap q) = cc
+
   is_sound : Sound g
   is_sound = record {
-    parameters = λ v m. has_bank v Scalar (f.scalars v (parameters v m));
+    parameters = parameter_general;
     operands = λ op x at m. operands op x (op_fits op at) m;
     results = λ op v at m. results op v (op_fits op at) m;
     tests = λ op v at m. absurd (tests op v (op_fits op at) m);
     arrays = λ op a at m. arrays_there op a (op_fits op at) m;
-    exit_operands = λ exit x at m. operand_of x (exit_operands_of exit x (exit_fits exit at) m);
+    exit_operands = λ exit x at m. passes_of x (exit_operands_of exit x (exit_fits exit at) m);
     exit_results = λ exit v at m. has_bank v Scalar (exit_results_of exit v (exit_fits exit at) m);
     exit_tests = λ exit v at m. exit_tests_of exit v (exit_fits exit at) m;
     targets = λ exit c at m. (targets_fit exit c (exit_fits exit at) m).1;
     no_across = λ v u at. op_fits (Across v u) at;
+    base_from = λ v a x at. let h = op_fits (Base v a x) at in from_of a x h.1 h.2;
+    place_bare = λ v a i at. let h = op_fits (Place v a i) at in bare_of a h.1 h.3;
+    place_base = λ v a u i at. let h = op_fits (PlaceIn v a u i) at in based_of a u h.1 h.2;
     place_written = λ v a op p at m. place_written v a op (role_of_place v a p) (op_fits op at) m;
     place_read = λ v a op p at m. place_read v a op (role_of_place v a p) (op_fits op at) m;
-    place_parameter = λ v a p m. let e : PlaceOf a ≡ Scalar = role_is roles v (PlaceOf a) Scalar (role_of_place v a p) (f.scalars v (parameters v m)) in cc;
+    place_parameter = λ v a p m. place_no_parameter v a (role_of_place v a p) m;
     place_exit = λ v a exit p at m. no_exit v a exit (role_of_place v a p) (exit_fits exit at) m;
     placed = λ a p op at access own. placed a p (accessed a p op access (op_fits op at)) own;
+    placed_by = λ a u p op at access e. placed_by a u p (accessed a p op access (op_fits op at)) e;
+    handed = handed;
+    base_written = λ v op p at m. base_written v op (role_of_base v p) (op_fits op at) m;
+    base_parameter = base_no_parameter;
+    base_read = λ v op p at m. base_read v op (role_of_base v p) (op_fits op at) m;
+    base_result = λ v exit p at m. (let e : Stand ≡ Scalar = role_is roles v Stand Scalar (role_of_base v p) (exit_results_of exit v (exit_fits exit at) m) in cc);
+    base_returned = λ v x p at e. returned_no_base v x (role_of_base v p) e (exit_fits (Return x) at);
     moves = λ v x y at. (op_fits (Compute Mov v x y) at).2;
   }
 
@@ -419,8 +669,36 @@ module _ (k : Known) (texts : ℕ) (roles : List Role) (b : Builder) (g : Graph)
       let split = two_targets x.block.exit c d x.leads (subst (λ q. IsIn d (targets_of q.exit)) same y.leads) n in
       split_origin i j d x.block z.block (origin b.blocks g.blocks s i x.block x.has) split (origin b.blocks g.blocks s j z.block z.has) z.leads
 
-  called : (exit : Exit) (n : ℕ) (os : List Operand) (result : Option ℕ) (next : ℕ) → ExitIs exit → exit ≡ Call n os result next → TakesArguments k n (length os)
-  called exit n os result next (fitting h) e = (subst (ExitFits k roles (length b.blocks)) e h).0
+  -- what is passed
+
+  number_is_none : (o : Operand) → OperandFits roles o → is_base_operand g o ≡ false
+  number_is_none (Held v) h = by (is_base g v) refl
+    where
+      by : (t : Bool) → is_base g v ≡ t → is_base g v ≡ false
+      by false e = e
+      by true e = let q : Stand ≡ Scalar = role_is roles v Stand Scalar (role_of_base v (tested_base g v e)) h in absurd (cc)
+  number_is_none (Number n) h = refl
+  number_is_none Stack h = absurd h
+
+  stand_is_one : (o : Operand) → StandFits roles o → is_base_operand g o ≡ true
+  stand_is_one (Held v) h = elim (f.stands v h) [
+    | inl y ↦ base_tested g v (given y.0 (ap base_of (array_is_there y.0 (Handed v y.1) y.2)))
+    | inr m ↦ base_tested g v (made m.1.0 m.1.1 (subst (HasOperation g) m.1.2 (is_there m.0 m.2)))
+  ]
+  stand_is_one (Number n) h = absurd h
+  stand_is_one Stack h = absurd h
+
+  hands : (takes : List Kind) (os : List Operand) → ArgumentsFit roles takes os → HandsOver g takes os
+  hands [] [] h = tt
+  hands [] (o ∷ os) h = h
+  hands (TakesNumber ∷ takes) [] h = h
+  hands (TakesNumber ∷ takes) (o ∷ os) h = (number_is_none o h.0, hands takes os h.1)
+  hands (TakesArray ∷ takes) [] h = h
+  hands (TakesArray ∷ takes) (o ∷ []) h = h
+  hands (TakesArray ∷ takes) (o ∷ n ∷ os) h = (stand_is_one o h.0, number_is_none n h.1, hands takes os h.2)
+
+  called : (exit : Exit) (n : ℕ) (os : List Operand) (result : Option ℕ) (next : ℕ) → ExitIs exit → exit ≡ Call n os result next → (takes : List Kind) × TakesArguments k n takes × HandsOver g takes os
+  called exit n os result next (fitting h) e = let w = (subst (ExitFits k roles (length b.blocks)) e h).0 in (w.0, w.1, hands w.0 os w.2)
   called exit n os result next (jumping c l w q) e = absurd (cc)
   called exit n os result next (returning q) e = absurd (cc)
   called exit n os result next (stopping trap q) e = absurd (cc)
@@ -438,15 +716,7 @@ module _ (k : Known) (texts : ℕ) (roles : List Role) (b : Builder) (g : Graph)
   }
 
 -- from the last graph that is being made
-pub shape : (k : Known) (texts : ℕ) (roles : List Role) (b : Builder) (g : Graph) → Shaped k texts roles b → Settled (finally b).blocks g.blocks → g.banks ≡ b.banks → length g.arrays ≡ k.arrays → ((v : ℕ) → IsIn v g.parameters → v < k.scalars) → WellShaped k texts g
-shape k texts roles b g h s banks arrays parameters =
+pub shape : (words : Sees) (k : Known words) (texts : ℕ) (roles : List Role) (b : Builder) (g : Graph) → Shaped k texts roles b → Settled (finally b).blocks g.blocks → g.banks ≡ b.banks → g.arrays ≡ arrays_from 0 words.arrays → ArePassed words g.parameters → WellShaped k texts g
+shape words k texts roles b g h s banks arrays passed =
     let f = fits_closed k texts roles b (Return (Number (pos 0))) b.current h.fits h.ready tt (λ trap e. cc) (record { unsplit = λ c m. absurd m; untouched = λ c m. absurd m }) in
-    well_shaped k texts roles (finally b) g f refl s banks arrays parameters
-
--- a function that is known is there
-pub callable : (k : Known) (flow : Flow) (n count : ℕ) → k.parameters ≡ map (λ graph. length graph.parameters) flow.functions → TakesArguments k n count → Callable flow n count
-callable k flow n count e h = one (slice_get flow.functions n) refl (sym (slice_get-map (λ graph. length graph.parameters) flow.functions n) ∙ ap (λ z. slice_get z n) (sym e) ∙ h)
-  where
-    one : (o : Option Graph) → slice_get flow.functions n ≡ o → option_map (λ graph. length graph.parameters) (slice_get flow.functions n) ≡ Some count → Callable flow n count
-    one None q w = let z : None ≡ Some count = sym (ap (option_map (λ graph. length graph.parameters)) q) ∙ w in absurd (cc)
-    one (Some graph) q w = let z : Some (length graph.parameters) ≡ Some count = sym (ap (option_map (λ graph. length graph.parameters)) q) ∙ w in record { graph = graph; is = q; parameters = cc }
+    well_shaped k texts roles (finally b) g f refl s banks arrays passed

@@ -7,9 +7,10 @@ use Rattle.vx_base.specs.Outcome.{Goes as Unfinished}
 use Rattle.vx_base.specs.declared.arithmetic.Code.TheVariants.{Mov}
 use Rattle.vx_ast.specs.declared.tree.Gives.{Gives as GivesBack}
 use Rattle.vx_ast.specs.declared.tree.Gives.TheVariants.{Int as GivesInt, Nothing as GivesNothing}
-use Rattle.vx_ast.specs.Tree.{One, Row, Tree, Code, Nothing, Seq, Empty, Block as Braces, Clear, Declare, ClearArray, Simply, Head, Print, If, IfElse, While, DoWhile, For, Break, Continue, Return, ReturnValue, Program as TreeProgram}
-use Rattle.vx_ast.specs.Meaning.{Store, Part, With, Trapped, Going, and_then, Leaves, Falls, Breaks, Continues, Returns, go_on, after_body, after_turn, tests, turns, turns_first, test_of, with_scalar, Calls, numbers_given, value, acts, does, unless_zero, pieces_of, printed, prints, cleared}
-use Rattle.vx_ast.specs.Accepted.{Scope, is_in, suits, suits_action, suits_test, suits_code, scope_after, is_format, numbers_of, row_length}
+use Rattle.vx_ast.specs.declared.tree.Takes.{Takes}
+use Rattle.vx_ast.specs.Tree.{NoMore, Then, Hand, One, Row, Tree, Code, Nothing, Seq, Empty, Block as Braces, Clear, Declare, ClearArray, Simply, Head, Print, If, IfElse, While, DoWhile, For, Break, Continue, Return, ReturnValue, Program as TreeProgram}
+use Rattle.vx_ast.specs.Meaning.{Store, Part, With, Trapped, Going, and_then, Leaves, Falls, Breaks, Continues, Returns, go_on, after_body, after_turn, tests, turns, turns_first, test_of, with_scalar, Calls, Argument, NumberArgument, ArrayArgument, numbers_given, value, acts, does, unless_zero, pieces_of, printed, prints, cleared}
+use Rattle.vx_ast.specs.Accepted.{Scope, is_in, suits, suits_action, suits_test, suits_code, scope_after, is_format, numbers_of, row_length, has_numbers, takes_of_row}
 use Rattle.vx_flow.specs.declared.graph.Operand.{Operand}
 use Rattle.vx_flow.specs.declared.graph.Operand.TheVariants.{Held, Number}
 use Rattle.vx_flow.specs.declared.graph.Op.TheVariants.{Compute}
@@ -20,11 +21,27 @@ use Rattle.vx_flow.specs.Meaning.{Program}
 use Rattle.vx_lower.specs.Holds.{Goes, same, To, Into, Tested, Holds, then_op, ends, jump}
 use Rattle.vx_lower.specs.Does.{Asks, always, asks, Does, nothing, seq, empty, braces, clear, declare, clear_array, simply, head, print, choose, choose_else, while, do_while, for, break, continue, return, return_value}
 use Rattle.vx_lower.proofs.Base.{and_one, and_two}
-use Rattle.vx_lower.proofs.Steps.{Here, setting_at, Entry, HasBlocks, Comes, Later, Passes, rest_run, comes_self, comes_on, later_on, on_later, is_later, passes_on, comes_goes, comes_past, later_jump, passes_jump, Gives, bind, shift, fewer, one_more, goes_on}
-use Rattle.vx_lower.proofs.Ties.{Tied, tied_scalar, row_length as words_of_row}
-use Rattle.vx_lower.proofs.Values.{head_of, zero_fits, Above, Fitting, Gained, Landed, Chosen, Good, CallsMeet, choose as choose_way}
+use Rattle.vx_lower.proofs.Steps.{Here, setting_at, Entry, HasBlocks, Comes, Later, Passes, rest_run, comes_self, comes_on, later_on, on_later, is_later, passes_on, comes_goes, comes_past, later_jump, passes_jump, Gives, bind, bind_with, shift, fewer, one_more, goes_on}
+use Rattle.vx_lower.specs.Seen.{Sees, size_at}
+use Rattle.vx_lower.proofs.Ties.{Above, Tied, held_kept, tied_scalar, row_length as words_of_row, held_size, size_below}
+use Rattle.vx_lower.proofs.Values.{takes_given, passed_by, head_of, zero_fits, Fitting, Gained, Landed, Chosen, Good, CallsMeet, choose as choose_way}
 use Rattle.vx_lower.proofs.Zeros.{Wiped, zeroes_run, tied_zeroed}
+use Rattle.vx_lower.proofs.Exprs.{row_takes}
 use Rattle.vx_lower.proofs.ActionLaws.{BothScopes, in_more, one_more_scalar, tied_narrow, Reaches, Stays, value_runs, sets, acts_run, shows_run}
+
+-- of a row of numbers the numbers are passed
+numbers_alone : (shapes : List ℕ) (row : Tree Row) (xs : List Argument) → has_numbers row ≡ true → takes_given xs ≡ takes_of_row row → passed_by shapes xs ≡ numbers_given xs
+numbers_alone shapes NoMore [] plain e = refl
+numbers_alone shapes NoMore (NumberArgument z ∷ xs) plain e = absurd (cc)
+numbers_alone shapes NoMore (ArrayArgument k ∷ xs) plain e = absurd (cc)
+numbers_alone shapes (Then a rest) [] plain e = absurd (cc)
+numbers_alone shapes (Then a rest) (NumberArgument z ∷ xs) plain e = ap (λ zs. z ∷ zs) (numbers_alone shapes rest xs plain (ap behind e))
+  where
+    behind : List Takes → List Takes
+    behind [] = []
+    behind (x ∷ xs) = xs
+numbers_alone shapes (Then a rest) (ArrayArgument k ∷ xs) plain e = absurd (cc)
+numbers_alone shapes (Hand a rest) xs plain e = absurd (cc)
 
 -- a statement leaves more in force
 pub after_wider : (st : Code) (sc : Scope) → BothScopes (scope_after st sc) sc
@@ -48,16 +65,23 @@ after_wider Continue sc = record { scalars = λ x i. i; arrays = λ x i. i }
 after_wider Return sc = record { scalars = λ x i. i; arrays = λ x i. i }
 after_wider (ReturnValue e) sc = record { scalars = λ x i. i; arrays = λ x i. i }
 
-above_one : (x vars : ℕ) (sc : Scope) → x < vars → Above sc vars → Above (record sc { scalars = x ∷ sc.scalars }) vars
-above_one x vars sc lt b y i = by (nat_eq y x) refl
+above_scalar : (words : Sees) (x vars : ℕ) (sc : Scope) → x < words.scalars → Above words sc vars → Above words (record sc { scalars = x ∷ sc.scalars }) vars
+above_scalar words x vars sc lt b = record { scalars = λ y i. by y i (nat_eq y x) refl; few = b.few; there = b.there; handed = b.handed }
   where
-    by : (t : Bool) → nat_eq y x ≡ t → y < vars
-    by true e = let q = eqb-true y x e in omega arith
-    by false e = b y (sym (ap (λ t. t || is_in y sc.scalars) e) ∙ i)
+    by : (y : ℕ) → is_in y (x ∷ sc.scalars) ≡ true → (t : Bool) → nat_eq y x ≡ t → y < words.scalars
+    by y i true e = let q = eqb-true y x e in omega arith
+    by y i false e = b.scalars y (sym (ap (λ t. t || is_in y sc.scalars) e) ∙ i)
 
-module _ (P : Program) (h : Here) (B : List Block) (has : HasBlocks P h B) (tree : TreeProgram) (kept : ℕ → Type 0) (shapes words : List ℕ) (vars : ℕ) where
+above_array : (words : Sees) (a vars : ℕ) (sc : Scope) → a < length words.arrays → Above words sc vars → Above words (record sc { arrays = a ∷ sc.arrays }) vars
+above_array words a vars sc lt b = record { scalars = b.scalars; few = b.few; there = λ y i. by y i (nat_eq y a) refl; handed = b.handed }
+  where
+    by : (y : ℕ) → is_in y (a ∷ sc.arrays) ≡ true → (t : Bool) → nat_eq y a ≡ t → y < length words.arrays
+    by y i true e = let q = eqb-true y a e in omega arith
+    by y i false e = b.there y (sym (ap (λ t. t || is_in y sc.arrays) e) ∙ i)
+
+module _ (P : Program) (h : Here) (B : List Block) (has : HasBlocks P h B) (tree : TreeProgram) (kept : ℕ → Type 0) (shapes : List ℕ) (words : Sees) (vars : ℕ) where
   abbrev Tie : Scope → Store → State → Type 0
-  Tie sc σ s = Tied P.globals (setting_at P h).spot sc kept shapes σ s
+  Tie sc σ s = Tied P.globals (setting_at P h).spot sc kept shapes words σ s
 
   abbrev Reach : Scope → Block → State → Block → Store → Type 0
   Reach sc p s q σ = Reaches P h B has tree kept shapes words vars sc p s q σ
@@ -69,7 +93,7 @@ module _ (P : Program) (h : Here) (B : List Block) (has : HasBlocks P h B) (tree
     pub comes : Comes P h p s (ends (Leave from)) to
     pub holds : held to from ≡ Some r
     pub number : IsNumber r
-    pub tied : Tied P.globals (setting_at P h).spot sc kept shapes σ to
+    pub tied : Tied P.globals (setting_at P h).spot sc kept shapes words σ to
 
   -- what the ways of leaving a statement say of the graph
   abbrev pub Left : Scope → Scope → Block → State → Block → Block → Block → Leaves → Store → Type 0
@@ -79,10 +103,10 @@ module _ (P : Program) (h : Here) (B : List Block) (has : HasBlocks P h B) (tree
   Left after sc p s q out more (Returns r) σ = Comes_out sc p s r σ
 
   reaches_from : {sc narrow : Scope} {p q r : Block} {s t : State} {σ : Store} → BothScopes sc narrow → Comes P h p s q t → Reach sc q t r σ → Reach narrow p s r σ
-  reaches_from {sc} {narrow} {σ = σ} b c g = record { to = g.to; comes = comes_on P h c g.comes; tied = tied_narrow P.globals (setting_at P h).spot kept shapes sc narrow σ g.to b g.tied }
+  reaches_from {sc} {narrow} {σ = σ} b c g = record { to = g.to; comes = comes_on P h c g.comes; tied = tied_narrow P.globals (setting_at P h).spot kept shapes words sc narrow σ g.to b g.tied }
 
   out_from : {sc narrow : Scope} {p q : Block} {s t : State} {r : ℤ} {σ : Store} → BothScopes sc narrow → Comes P h p s q t → Comes_out sc q t r σ → Comes_out narrow p s r σ
-  out_from {sc} {narrow} {σ = σ} b c g = record { to = g.to; from = g.from; comes = comes_on P h c g.comes; holds = g.holds; number = g.number; tied = tied_narrow P.globals (setting_at P h).spot kept shapes sc narrow σ g.to b g.tied }
+  out_from {sc} {narrow} {σ = σ} b c g = record { to = g.to; from = g.from; comes = comes_on P h c g.comes; holds = g.holds; number = g.number; tied = tied_narrow P.globals (setting_at P h).spot kept shapes words sc narrow σ g.to b g.tied }
 
   goes_after : {sc : Scope} {p q r : Block} {s : State} {σ : Store} → Reach sc p s q σ → Goes B r q → Reach sc p s r σ
   goes_after {q = q} {r = r} g e = record { to = g.to; comes = comes_on P h g.comes (comes_goes P h B has r q g.to e); tied = g.tied }
@@ -130,14 +154,14 @@ module _ (P : Program) (h : Here) (B : List Block) (has : HasBlocks P h B) (tree
   turn_gives m n le sc p s y again leaves q out more u f (Trapped w o) c e g k = λ b. let d = c.by b in let v = g d.0 in let x = d.1 v.0 in (x.0, x.2 ∙ v.1)
   turn_gives m n le sc p s y again leaves q out more u f (Going o) c e g k = λ b. let d = c.by b in let v = g d.0 in let x = d.1 v.0 in let l = x.1 in let r = v.1 in (x.0, omega arith, x.2 ∙ v.2)
 
-  pub above_after : {texts : List (List ℕ)} {st : Code} {p q out more : Block} → Does B words texts vars st p q out more → (sc : Scope) → Above sc vars → Above (scope_after st sc) vars
+  pub above_after : {texts : List (List ℕ)} {st : Code} {p q out more : Block} → Does B words texts vars st p q out more → (sc : Scope) → Above words sc vars → Above words (scope_after st sc) vars
   above_after nothing sc b = b
   above_after (seq x y) sc b = above_after y _ (above_after x sc b)
   above_after empty sc b = b
   above_after (braces x) sc b = b
-  above_after (clear {x = x} lt g) sc b = above_one x vars sc lt b
-  above_after (declare {x = x} e le lt) sc b = above_one x vars sc lt b
-  above_after (clear_array z) sc b = b
+  above_after (clear {x = x} lt g) sc b = above_scalar words x vars sc lt b
+  above_after (declare {x = x} e le lt) sc b = above_scalar words x vars sc lt b
+  above_after (clear_array {a = a} lt z) sc b = above_array words a vars sc lt b
   above_after (simply a) sc b = b
   above_after (head a) sc b = b
   above_after (print x le g) sc b = b
@@ -156,22 +180,22 @@ module _ (P : Program) (h : Here) (B : List Block) (has : HasBlocks P h B) (tree
     pub to : State
     pub later : Later P h (jump hb) s (unless_zero v one two) to
     pub passes : Passes P h (jump hb) s to.out
-    pub tied : Tied P.globals (setting_at P h).spot sc kept shapes σ to
+    pub tied : Tied P.globals (setting_at P h).spot sc kept shapes words σ to
 
   module _ (n : ℕ) (calls : Calls) (meets : CallsMeet P h B has tree kept shapes words n calls) (fitting : Fitting P h tree shapes words) where
     abbrev Tests : Scope → Block → State → Block → Block → ℕ → ℤ → Store → Type 0
     Tests sc p s one two lo v σ = Chosen P h B has tree kept shapes words n sc p s one two lo v σ
 
-    runs : (sc : Scope) {e : Tree One} {p one two : Block} {lo : ℕ} → Holds B words One e p (Tested one two) lo → suits tree sc e ≡ true → Above sc vars → vars ≤ lo → (σ : Store) (s : State) → Tie sc σ s → Gives P h n p s (Tests sc p s one two lo) (value (setting_at P h).spot calls e σ)
+    runs : (sc : Scope) {e : Tree One} {p one two : Block} {lo : ℕ} → Holds B words One e p (Tested one two) lo → suits tree sc e ≡ true → Above words sc vars → vars ≤ lo → (σ : Store) (s : State) → Tie sc σ s → Gives P h n p s (Tests sc p s one two lo) (value (setting_at P h).spot calls e σ)
     runs sc x fit above le σ s tied = value_runs P h B has tree kept shapes words vars n calls meets fitting sc x fit above le σ s tied
 
     -- a condition, and then either part
-    chooses : (sc after : Scope) {e : Tree One} {p one two : Block} {lo : ℕ} (q out more : Block) → Holds B words One e p (Tested one two) lo → suits tree sc e ≡ true → Above sc vars → vars ≤ lo → (σ : Store) (s : State) → Tie sc σ s → (f g : Store → Part Leaves) → ((σ1 : Store) (u : State) → Comes P h p s one u → Tie sc σ1 u → Gives P h n p s (Left after sc p s q out more) (f σ1)) → ((σ1 : Store) (u : State) → Comes P h p s two u → Tie sc σ1 u → Gives P h n p s (Left after sc p s q out more) (g σ1)) → Gives P h n p s (Left after sc p s q out more) (tests (value (setting_at P h).spot calls e σ) f g)
+    chooses : (sc after : Scope) {e : Tree One} {p one two : Block} {lo : ℕ} (q out more : Block) → Holds B words One e p (Tested one two) lo → suits tree sc e ≡ true → Above words sc vars → vars ≤ lo → (σ : Store) (s : State) → Tie sc σ s → (f g : Store → Part Leaves) → ((σ1 : Store) (u : State) → Comes P h p s one u → Tie sc σ1 u → Gives P h n p s (Left after sc p s q out more) (f σ1)) → ((σ1 : Store) (u : State) → Comes P h p s two u → Tie sc σ1 u → Gives P h n p s (Left after sc p s q out more) (g σ1)) → Gives P h n p s (Left after sc p s q out more) (tests (value (setting_at P h).spot calls e σ) f g)
     chooses sc after {e} {p} {one} {two} {lo} q out more x fit above le σ s tied f g yes_case no_case =
         bind P h n p p s s (Tests sc p s one two lo) (Left after sc p s q out more) _ (comes_self P h p s) (value (setting_at P h).spot calls e σ) (runs sc x fit above le σ s tied) (λ v σ1 g1.
         choose_way P h B has tree kept shapes words n v (f σ1) (g σ1) p one two s g1.to (Left after sc p s q out more) g1.comes (λ c. yes_case σ1 g1.to c g1.tied) (λ c. no_case σ1 g1.to c g1.tied))
 
-    asks_run : {test : Option (Tree One)} {top one two : Block} → Asks B words vars test top one two → (sc : Scope) (hb : ℕ) → slice_get B hb ≡ Some top → suits_test tree sc test ≡ true → Above sc vars → (σ : Store) (s : State) → Tie sc σ s → Gives P h n (jump hb) s (Asked sc hb s one two) (test_of (setting_at P h).spot calls test σ)
+    asks_run : {test : Option (Tree One)} {top one two : Block} → Asks B words vars test top one two → (sc : Scope) (hb : ℕ) → slice_get B hb ≡ Some top → suits_test tree sc test ≡ true → Above words sc vars → (σ : Store) (s : State) → Tie sc σ s → Gives P h n (jump hb) s (Asked sc hb s one two) (test_of (setting_at P h).spot calls test σ)
     asks_run (always {p = p} {yes = one} {no = two} g) sc hb at fit above σ s tied = record {
       to = s;
       later = on_later P h (later_jump P h B has (jump hb) p hb s (same refl) at) (comes_goes P h B has one p s g);
@@ -209,7 +233,7 @@ module _ (P : Program) (h : Here) (B : List Block) (has : HasBlocks P h B) (tree
         (λ l. record { to = g1.to; comes = comes_on P h (is_later P h l) (comes_goes P h B has q two g1.to gq); tied = g1.tied }))
 
     -- at most m turns, each with its test behind it
-    first_runs : (sc : Scope) (e : Tree One) (hb : ℕ) (top z one two leaves q out more : Block) {lo : ℕ} → slice_get B hb ≡ Some top → Holds B words One e z (Tested one two) lo → suits tree sc e ≡ true → Above sc vars → vars ≤ lo → Goes B (jump hb) one → Goes B q two → Goes B q leaves → (turn : Store → Part Leaves) → ((σ : Store) (u : State) → Tie sc σ u → Gives P h n top u (Left sc sc top u z leaves z) (turn σ)) → (m : ℕ) → m ≤ n → (σ : Store) (s : State) → Tie sc σ s → Gives P h m (jump hb) s (Left sc sc (jump hb) s q out more) (turns_first m (value (setting_at P h).spot calls e) turn σ)
+    first_runs : (sc : Scope) (e : Tree One) (hb : ℕ) (top z one two leaves q out more : Block) {lo : ℕ} → slice_get B hb ≡ Some top → Holds B words One e z (Tested one two) lo → suits tree sc e ≡ true → Above words sc vars → vars ≤ lo → Goes B (jump hb) one → Goes B q two → Goes B q leaves → (turn : Store → Part Leaves) → ((σ : Store) (u : State) → Tie sc σ u → Gives P h n top u (Left sc sc top u z leaves z) (turn σ)) → (m : ℕ) → m ≤ n → (σ : Store) (s : State) → Tie sc σ s → Gives P h m (jump hb) s (Left sc sc (jump hb) s q out more) (turns_first m (value (setting_at P h).spot calls e) turn σ)
     first_runs sc e hb top z one two leaves q out more at x fit above lv g1 gq gl turn turns_well zero le σ s tied = goes_on P h (jump hb) s (Left sc sc (jump hb) s q out more) σ.out (subst (λ o. Passes P h (jump hb) s o) tied.out (passes_jump P h B has (jump hb) hb s (same refl)))
     first_runs sc e hb top z one two leaves q out more {lo} at x fit above lv gy gq gl turn turns_well (suc m) le σ s tied =
         let few : m ≤ n = omega arith in
@@ -234,7 +258,7 @@ module _ (P : Program) (h : Here) (B : List Block) (has : HasBlocks P h B) (tree
     inside : (sc : Scope) (a : Code) (p q out more : Block) (s : State) (o : Part Leaves) → Gives P h n p s (Left (scope_after a sc) sc p s q out more) o → Gives P h n p s (Left sc sc p s q out more) o
     inside sc a p q out more s o g = shift P h n p p s s (Left (scope_after a sc) sc p s q out more) (Left sc sc p s q out more) (comes_self P h p s) o g (narrow_left (scope_after a sc) sc p q out more s (after_wider a sc))
 
-    pub stmt_runs : {st : Code} {p q out more : Block} → Does B words P.texts vars st p q out more → (sc : Scope) (gives : GivesBack) (loops : Bool) → suits_code tree gives loops sc st ≡ true → Above sc vars → (σ : Store) (s : State) → Tie sc σ s → Gives P h n p s (Left (scope_after st sc) sc p s q out more) (does (setting_at P h).spot calls n st σ)
+    pub stmt_runs : {st : Code} {p q out more : Block} → Does B words P.texts vars st p q out more → (sc : Scope) (gives : GivesBack) (loops : Bool) → suits_code tree gives loops sc st ≡ true → Above words sc vars → (σ : Store) (s : State) → Tie sc σ s → Gives P h n p s (Left (scope_after st sc) sc p s q out more) (does (setting_at P h).spot calls n st σ)
     stmt_runs (nothing {p = p}) sc gives loops fit above σ s tied = record { to = s; comes = comes_self P h p s; tied = tied }
     stmt_runs (seq {a = a} {b = b} {p = p} {m = m} {q = q} {out = out} {more = more} x y) sc gives loops fit above σ s tied =
         let sc1 = scope_after a sc in
@@ -245,28 +269,28 @@ module _ (P : Program) (h : Here) (B : List Block) (has : HasBlocks P h B) (tree
     stmt_runs (clear {x = x} {p = p} {q = q} lt g) sc gives loops fit above σ s tied = record {
       to = with_value s x (Some (pos 0));
       comes = comes_past P h B has (Compute Mov x (Number (pos 0)) (Number (pos 0))) p q s (with_value s x (Some (pos 0))) g refl;
-      tied = tied_scalar P.globals (setting_at P h).spot kept shapes sc x σ s (pos 0) zero_fits tied;
+      tied = tied_scalar P.globals (setting_at P h).spot kept shapes words sc vars x σ s (pos 0) above lt zero_fits tied;
     }
     stmt_runs (declare {x = x} {lo = lo} {e = e} {p = p} {q = q} {out = out} {more = more} y le lt) sc gives loops fit above σ s tied =
-        bind P h n p p s s (Landed P h B has tree kept shapes words n sc p s x q lo) (Left (record sc { scalars = x ∷ sc.scalars }) sc p s q out more) _ (comes_self P h p s) (value (setting_at P h).spot calls e σ) (value_runs P h B has tree kept shapes words vars n calls meets fitting sc y fit above le σ s tied) (λ v σ1 g1. sets P h B has tree kept shapes words vars n calls meets fitting sc p s x q lo v σ1 g1)
-    stmt_runs (clear_array {a = a} {p = p} {q = q} z) sc gives loops fit above σ s tied =
-        let size_is = length_at a σ s tied in
-        let w = zeroes_run P h B has vars a (slice_index_or words a 0) p q z s.arrays size_is (fitting.small a) s refl in
+        bind P h n p p s s (Landed P h B has tree kept shapes words n sc p s x q lo) (Left (record sc { scalars = x ∷ sc.scalars }) sc p s q out more) _ (comes_self P h p s) (value (setting_at P h).spot calls e σ) (value_runs P h B has tree kept shapes words vars n calls meets fitting sc y fit above le σ s tied) (λ v σ1 g1. sets P h B has tree kept shapes words vars n calls meets fitting sc p s x q lo v σ1 above lt g1)
+    stmt_runs (clear_array {a = a} {p = p} {q = q} lt z) sc gives loops fit above σ s tied =
+        let size = slice_index_or shapes ((setting_at P h).spot a) 0 in
+        let size_is = words_of_row P.globals (setting_at P h).spot kept shapes words sc σ s ((setting_at P h).spot a) tied in
+        let w = zeroes_run P h B has vars a size (size_at words a) p q z s.arrays size_is (fitting.small ((setting_at P h).spot a)) s (λ u k. held_kept vars s u (size_at words a) k (size_below words sc vars a above) ∙ held_size words (setting_at P h).spot shapes s a fitting.sized tied.handed) refl in
         record {
           to = w.to;
           comes = w.comes;
-          tied = tied_zeroed P.globals (setting_at P h).spot sc kept shapes a (slice_index_or words a 0) σ s w.to tied (fitting.same a) (λ y i. w.keeps y (above y i)) w.arrays w.input w.out;
+          tied = tied_zeroed P.globals (setting_at P h).spot sc kept shapes words a size vars σ s w.to above tied refl w.keeps w.arrays w.input w.out;
         }
-      where
-        length_at : (a : ℕ) (σ : Store) (s : State) → Tie sc σ s → length (slice_index_or s.arrays ((setting_at P h).spot a) []) ≡ slice_index_or words a 0
-        length_at a σ s tied = words_of_row P.globals (setting_at P h).spot kept shapes sc σ s ((setting_at P h).spot a) tied ∙ fitting.same a
     stmt_runs (simply {a = a} {p = p} {q = q} {out = out} {more = more} x) sc gives loops fit above σ s tied =
         shift P h n p p s s (Stays P h B has tree kept shapes words vars n calls meets fitting sc p s q) (Left sc sc p s q out more) (comes_self P h p s) (acts (setting_at P h).spot calls a σ) (acts_run P h B has tree kept shapes words vars n calls meets fitting x sc fit above σ s tied) (stays_left sc sc p q out more s)
     stmt_runs (head {a = a} {p = p} {q = q} {out = out} {more = more} x) sc gives loops fit above σ s tied =
         shift P h n p p s s (Stays P h B has tree kept shapes words vars n calls meets fitting sc p s q) (Left sc sc p s q out more) (comes_self P h p s) (acts (setting_at P h).spot calls a σ) (acts_run P h B has tree kept shapes words vars n calls meets fitting x sc fit above σ s tied) (stays_left sc sc p q out more s)
     stmt_runs (print {format = format} {row = row} {os = os} {p = p} {m = m} {q = q} {out = out} {more = more} {lo = lo} x le y) sc gives loops fit above σ s tied =
-        bind P h n p p s s (Gained P h B has tree kept shapes words n sc p s m os lo Row) (Left sc sc p s q out more) _ (comes_self P h p s) (value (setting_at P h).spot calls row σ) (value_runs P h B has tree kept shapes words vars n calls meets fitting sc x (and_two (is_format format && nat_eq (numbers_of format) (row_length row)) (suits tree sc row) fit) above le σ s tied) (λ xs σ1 g1.
-        let r = shows_run P h B has tree kept shapes words vars sc y (numbers_given xs) σ1 g1.to g1.holds g1.tied in
+        let first = and_one (is_format format && (nat_eq (numbers_of format) (row_length row) && has_numbers row)) (suits tree sc row) fit in
+        let plain = and_two (nat_eq (numbers_of format) (row_length row)) (has_numbers row) (and_two (is_format format) (nat_eq (numbers_of format) (row_length row) && has_numbers row) first) in
+        bind_with P h n p p s s (Gained P h B has tree kept shapes words n sc p s m os lo Row) (λ xs u. takes_given xs ≡ takes_of_row row) (Left sc sc p s q out more) _ (comes_self P h p s) (value (setting_at P h).spot calls row σ) (row_takes (setting_at P h).spot calls row σ) (value_runs P h B has tree kept shapes words vars n calls meets fitting sc x (and_two (is_format format && (nat_eq (numbers_of format) (row_length row) && has_numbers row)) (suits tree sc row) fit) above le σ s tied) (λ xs σ1 kinds g1.
+        let r = shows_run P h B has tree kept shapes words vars sc y (numbers_given xs) σ1 g1.to (g1.holds ∙ ap (map Some) (numbers_alone shapes row xs plain kinds)) g1.tied in
         record { to = r.to; comes = comes_on P h g1.comes r.comes; tied = r.tied })
     stmt_runs (choose {e = e} {a = a} {p = p} {yes = yb} {no = nb} {m = m} {q = q} {out = out} {more = more} x le da ga gb) sc gives loops fit above σ s tied =
         chooses sc sc q out more x (and_one (suits tree sc e) (suits_code tree gives loops sc a) fit) above le σ s tied (does (setting_at P h).spot calls n a) (λ t. With Falls t)

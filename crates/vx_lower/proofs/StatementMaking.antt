@@ -17,7 +17,8 @@ use Rattle.vx_flow.specs.declared.graph.Op.TheVariants.{Compute, Place, Store}
 use Rattle.vx_flow.specs.declared.graph.Exit.{Exit}
 use Rattle.vx_flow.specs.declared.graph.Exit.TheVariants.{Goto, Return as Returns}
 use Rattle.vx_flow.specs.declared.graph.Block.{Block}
-use Rattle.vx_lower.specs.Holds.{size_at, Goes, same, on, Way, To, Into, Tested, Lands, fresh, into, then_op, ends, jump}
+use Rattle.vx_lower.specs.Seen.{Sees, size_at}
+use Rattle.vx_lower.specs.Holds.{Goes, same, on, Way, To, Into, Tested, Lands, fresh, into, then_op, ends, jump}
 use Rattle.vx_lower.specs.Does.{Acts, Zeroes, Asks, asks, always, Shows, Does, nothing, seq, empty, braces, clear, declare, clear_array, simply, head, print, choose, choose_else, while, do_while, for, break, continue, return, return_value}
 use Rattle.vx_lower.specs.Builds.{reserved, closed, with_value, Ready, Grows, Stands, Finishes, Opens, From, Puts, Branches}
 use Rattle.vx_lower.specs.Emits.{way_of, Lasts, IsWithin, Emits, EmitsTest, EmitsRow, Spare}
@@ -29,10 +30,10 @@ use Rattle.vx_lower.proofs.PieceMaking.{sets_of, branched_of}
 use Rattle.vx_lower.proofs.Emitting.{within_on, spare_on, spare_closed, spare_reserved, ready_closed, Joined, joined}
 use Rattle.vx_lower.proofs.PrintMaking.{begins_self, begins_on}
 
-pub plain_as : (words : List ℕ) (a b : Builder) (x y : Code) → x ≡ y → (Ready a → MakesPlain words x a b) → Ready a → MakesPlain words y a b
+pub plain_as : (words : Sees) (a b : Builder) (x y : Code) → x ≡ y → (Ready a → MakesPlain words x a b) → Ready a → MakesPlain words y a b
 plain_as words a b x y e f r = subst (λ z. MakesPlain words z a b) e (f r)
 
-pub makes_as : (words : List ℕ) (leaves again : Option ℕ) (a b : Builder) (s t : List (List ℕ)) (x y : Code) → x ≡ y → (Ready a → Makes words x leaves again a b s t) → Ready a → Makes words y leaves again a b s t
+pub makes_as : (words : Sees) (leaves again : Option ℕ) (a b : Builder) (s t : List (List ℕ)) (x y : Code) → x ≡ y → (Ready a → Makes words x leaves again a b s t) → Ready a → Makes words y leaves again a b s t
 makes_as words leaves again a b s t x y e f r = subst (λ z. Makes words z leaves again a b s t) e (f r)
 
 -- the open block ends, and what comes next is reached by nothing
@@ -68,7 +69,7 @@ pub ended_before : (B : List Block) (b : Builder) (exit : Exit) → Ready b → 
 ended_before B b exit r f = let g = grows_reserved b r in finishes_back B b (reserved b) r g (before_closed B (reserved b) exit (length b.blocks) g.ready f)
 
 -- what is plain is a statement
-pub makes_plain : (words : List ℕ) (leaves again : Option ℕ) (s : Code) (a b : Builder) (ts : List (List ℕ)) → (Ready a → MakesPlain words s a b) → Ready a → Makes words s leaves again a b ts ts
+pub makes_plain : (words : Sees) (leaves again : Option ℕ) (s : Code) (a b : Builder) (ts : List (List ℕ)) → (Ready a → MakesPlain words s a b) → Ready a → Makes words s leaves again a b ts ts
 makes_plain words leaves again s a b ts x r =
     let k = x r in
     record { grows = k.grows; texts = begins_self ts; code = λ vars is le B texts q g f o. k.code vars is le B texts q (ends (way_exit leaves)) (ends (way_exit again)) f o }
@@ -93,7 +94,7 @@ clears_word a i t u b0 b1 b2 b3 b4 et pt st ad r =
           record { start = s1.start; opens = s1.opens; holds = record { store = s2.start; step = s3.start; places = s1.holds; stores = s2.holds; steps = subst (λ x. Goes B (then_op (Compute Add x (Held i) (Number (pos 1))) q) s3.start) (sym ei) s3.holds } };
     }
 
-module _ (words : List ℕ) where
+module _ (words : Sees) where
   pub plain_nothing : (b : Builder) → Ready b → MakesPlain words Nothing b b
   plain_nothing b r = record { grows = grows_self b r; code = λ vars is le B texts q out more f o. record { start = q; opens = o; holds = nothing } }
 
@@ -129,7 +130,7 @@ module _ (words : List ℕ) where
       record { grows = k.grows; code = λ vars is le B texts q out more f w. let s = k.code vars is le B q f w in record { start = s.start; opens = s.opens; holds = head s.holds } }
 
   -- the items of a declaration
-  items_within : (vars : ℕ) (xs : List Item) (x : Item) → CodeWithin vars (items_of (xs ++ x ∷ [])) → CodeWithin vars (items_of xs) × CodeWithin vars (item_of x)
+  items_within : (vars : ℕ) (xs : List Item) (x : Item) → CodeWithin words vars (items_of (xs ++ x ∷ [])) → CodeWithin words vars (items_of xs) × CodeWithin words vars (item_of x)
   items_within vars [] x h = (tt, h.0)
   items_within vars (y ∷ xs) x h = let w = items_within vars xs x h.1 in ((h.0, w.0), w.1)
 
@@ -224,7 +225,7 @@ module _ (words : List ℕ) where
         code = λ vars is le B texts q g f w.
             let iw = within_on vars (length b0.banks) row le is.1 in
             let f1 = finishes_back B b1 b2 hx.grows.ready k.grows f in
-            let c = hx.count in let i0 = is.0 in
+            let c = hx.many in let i0 = is.0 in
             let n : numbers_in (pieces_of format) ≤ length os = omega arith in
             let s2 = k.code n B texts q g f w in
             let s1 = hx.code iw B s2.start f1 s2.opens in
@@ -264,7 +265,7 @@ module _ (words : List ℕ) where
             record {
               start = s1.start;
               opens = s1.opens;
-              holds = clear_array (record {
+              holds = clear_array is (record {
                 i = i;
                 t = w.t;
                 c = c;

@@ -33,6 +33,22 @@ active_at h e = record { function = h.function; block = e.block; passed = h.pass
 abbrev pub setting_at : Program → Here → Setting
 setting_at P h = setting_with P h.passed h.base
 
+-- what a part ends with, where it ends with a value
+abbrev pub AllWith : {A : Type 0} → (A → Store → Type 0) → Part A → Type 0
+AllWith F (With a σ) = F a σ
+AllWith F (Trapped k out) = Unit {0}
+AllWith F (Going out) = Unit {0}
+
+pub all_then : {A B : Type 0} (G : A → Store → Type 0) (F : B → Store → Type 0) (o : Part A) (f : A → Store → Part B) → AllWith G o → ((a : A) (σ : Store) → G a σ → AllWith F (f a σ)) → AllWith F (then_do o f)
+all_then G F (With a σ) f x k = k a σ x
+all_then G F (Trapped w out) f x k = tt
+all_then G F (Going out) f x k = tt
+
+pub all_with : {A : Type 0} (o : Part A) → AllWith (λ a σ. Unit {0}) o
+all_with (With a σ) = tt
+all_with (Trapped k out) = tt
+all_with (Going out) = tt
+
 module _ (P : Program) (h : Here) where
   abbrev pub output_at : Active → List ℕ
   output_at r = r.state.out
@@ -90,6 +106,12 @@ module _ (P : Program) (h : Here) where
   bind n p q s t Good Better f c (With a σ) g k = k a σ g
   bind n p q s t Good Better f c (Trapped w out) g k = λ e. let d = c.by e in let y = g d.0 in let x = d.1 y.0 in (x.0, x.2 ∙ y.1)
   bind n p q s t Good Better f c (Going out) g k = λ e. let d = c.by e in let y = g d.0 in let x = d.1 y.0 in let l = x.1 in let m = y.1 in (x.0, omega arith, x.2 ∙ y.2)
+
+  -- the same where more is known of what the part ends with
+  pub bind_with : {A B : Type 0} (n : ℕ) (p q : Block) (s t : State) (Good F : A → Store → Type 0) (Better : B → Store → Type 0) (f : A → Store → Part B) → Comes p s q t → (o : Part A) → AllWith F o → Gives n q t Good o → ((a : A) (σ : Store) → F a σ → Good a σ → Gives n p s Better (f a σ)) → Gives n p s Better (then_do o f)
+  bind_with n p q s t Good F Better f c (With a σ) x g k = k a σ x g
+  bind_with n p q s t Good F Better f c (Trapped w out) x g k = λ e. let d = c.by e in let y = g d.0 in let x = d.1 y.0 in (x.0, x.2 ∙ y.1)
+  bind_with n p q s t Good F Better f c (Going out) x g k = λ e. let d = c.by e in let y = g d.0 in let x = d.1 y.0 in let l = x.1 in let m = y.1 in (x.0, omega arith, x.2 ∙ y.2)
 
   pub shift : {A : Type 0} (n : ℕ) (p q : Block) (s t : State) (Good Better : A → Store → Type 0) → Comes p s q t → (o : Part A) → Gives n q t Good o → ((a : A) (σ : Store) → Good a σ → Better a σ) → Gives n p s Better o
   shift n p q s t Good Better c (With a σ) g k = k a σ g

@@ -5,7 +5,7 @@ use Rattle.std.specs.List.{list_all}
 use Rattle.std.specs.Int.{w32}
 use Rattle.std.proofs.lemmas.Int.{fits_signed_from_abs}
 use Rattle.std.proofs.lemmas.Bool.{eqb-true}
-use Rattle.std.proofs.lemmas.List.{length-map}
+use Rattle.std.proofs.lemmas.List.{length-map, nil_from_length}
 use Rattle.std.proofs.Math.ListN.{get_or-map}
 use Rattle.vx_base.specs.Arithmetic.{IsNumber}
 use Rattle.vx_base.specs.Outcome.{Outcome, Ends, Traps, Goes as Unfinished, FollowsAt, Follows, Same, NeverFails, Step, step_then, run}
@@ -13,7 +13,7 @@ use Rattle.vx_base.proofs.Following.{follows_same}
 use Rattle.vx_ast.specs.declared.tree.GlobalVariable.{GlobalVariable}
 use Rattle.vx_ast.specs.declared.tree.GlobalVariable.TheVariants.{Scalar as ScalarGlobal, Array as ArrayGlobal}
 use Rattle.vx_ast.specs.Tree.{Function, Program as TreeProgram}
-use Rattle.vx_ast.specs.Meaning.{Store, Part, With, Trapped, Going, Leaves, Falls, Breaks, Continues, Returns, does, spot_of as place_of, result_of, entered as entered_source, activate, active, words_at_start as source_words, at_start as source_start, outcome_of, source, deepest as source_deepest}
+use Rattle.vx_ast.specs.Meaning.{Store, Part, With, Trapped, Going, Leaves, Falls, Breaks, Continues, Returns, does, spot_in as place_in, result_of, entered as entered_source, activate, active, words_at_start as source_words, at_start as source_start, outcome_of, source, deepest as source_deepest}
 use Rattle.vx_ast.specs.Accepted.{is_accepted, is_main, gives_int, suits_global, global_words, in_force_at_start}
 use Rattle.vx_flow.specs.declared.graph.Exit.TheVariants.{Return}
 use Rattle.vx_flow.specs.declared.graph.Block.{Block}
@@ -21,17 +21,18 @@ use Rattle.vx_flow.specs.declared.graph.Graph.{Graph}
 use Rattle.vx_flow.specs.declared.graph.Global.{Global}
 use Rattle.vx_flow.specs.declared.graph.Flow.{Flow}
 use Rattle.vx_flow.specs.Effects.{Content, State, held}
-use Rattle.vx_flow.specs.Meaning.{Body, Program, Active, after_hop, leaves, next, entered_or, program_of, words_at_start as graph_words, globals_at_start, graph_run}
+use Rattle.vx_flow.specs.Meaning.{Body, Program, Active, spot_in, after_hop, leaves, next, entered_or, program_of, words_at_start as graph_words, globals_at_start, graph_run}
 use Rattle.vx_flow.proofs.RunLaws.{graph_run_steady}
 use Rattle.vx_lower.specs.FlowOf.{AreNumbers}
 use Rattle.vx_lower.specs.Holds.{ends}
-use Rattle.vx_lower.specs.Lowered.{global_of, words_seen, Lowered, AllLowered, LoweringLaw}
+use Rattle.vx_lower.specs.Lowered.{global_of, sees_of, Lowered, AllLowered, LoweringLaw}
 use Rattle.vx_lower.proofs.Base.{SameRow, and_one, and_two}
 use Rattle.vx_lower.proofs.Steps.{Here, Entry, active_at, rest_run, Gives, arrival}
 use Rattle.vx_lower.proofs.Ties.{InRange}
 use Rattle.vx_lower.proofs.Values.{zero_fits}
-use Rattle.vx_lower.proofs.Calls.{Fronts, fronts_on, deep, has_blocks, start_state, Rows, tied_start, Ended, Endings, body_ends, calls_meet, graph_there, count_globals, same_globals, body_there}
-use Rattle.vx_lower.proofs.Facts.{globals_suit, main_suits, zeros_fit, RowsFit, length_replicate}
+use Rattle.vx_lower.proofs.Calls.{Fronts, fronts_on, deep, has_blocks, start_state, Rows, Handing, tied_start, Ended, Endings, body_ends, calls_meet, graph_there, count_globals, same_globals, body_there}
+use Rattle.vx_lower.proofs.Passing.{same_spots}
+use Rattle.vx_lower.proofs.Facts.{globals_suit, main_suits, numbers_are, few_own, few_global, zeros_fit, RowsFit, length_replicate}
 
 known_zeros : (n : ℕ) → replicate n (Some (pos 0)) ≡ map Some (replicate n (pos 0))
 known_zeros zero = refl
@@ -121,15 +122,15 @@ module _ (p : TreeProgram) (flow : Flow) (accepted : is_accepted p ≡ true) (al
   follow n g start shapes at at_start (Trapped k out) x = let y = x (record { block = 0; state = start_state flow p accepted all n g [] state }) in (suc y.0, begins n y.0 g start at at_start ∙ y.1)
   follow n g start shapes at at_start (Going out) x = let y = x (record { block = 0; state = start_state flow p accepted all n g [] state }) in let l = y.1 in (suc y.0, omega arith, begins n y.0 g start at at_start ∙ y.2)
 
-  main_there : (f : Function) × (slice_get p.functions p.main ≡ Some f) × (f.parameters ≡ 0)
+  main_there : (f : Function) × (slice_get p.functions p.main ≡ Some f) × ([] ≡ f.takes)
   main_there = by (slice_get p.functions p.main) refl
     where
-      by : (o : Option Function) → slice_get p.functions p.main ≡ o → (f : Function) × (slice_get p.functions p.main ≡ Some f) × (f.parameters ≡ 0)
+      by : (o : Option Function) → slice_get p.functions p.main ≡ o → (f : Function) × (slice_get p.functions p.main ≡ Some f) × ([] ≡ f.takes)
       by None e = absurd (no (sym (ap is_main e) ∙ main_suits p accepted))
         where
           no : false ≡ true → ⊥
           no e = absurd (cc)
-      by (Some f) e = (f, e, eqb-true f.parameters 0 (and_two (gives_int f.gives) (nat_eq f.parameters 0) (sym (ap is_main e) ∙ main_suits p accepted)))
+      by (Some f) e = (f, e, sym (nil_from_length f.takes (eqb-true (length f.takes) 0 (and_two (gives_int f.gives) (nat_eq (length f.takes) 0) (sym (ap is_main e) ∙ main_suits p accepted)))))
 
   program_follows : Follows (source p input) (graph_run flow input)
   program_follows n =
@@ -139,18 +140,20 @@ module _ (p : TreeProgram) (flow : Flow) (accepted : is_accepted p ≡ true) (al
       let at : slice_get flow.functions flow.main ≡ Some g.0 = ap (slice_get flow.functions) all.main ∙ g.1 in
       let gs : List ℕ = map global_words p.globals in
       let len = length-map p.globals global_words in
-      let fronts : Fronts gs gs = record { same = λ a l. refl; long = omega arith } in
+      let fronts : Fronts gs gs = record { same = λ a l. refl; long = omega arith; few = few_global p accepted } in
       let s1 = start_state flow p accepted all n g.0 [] state in
       let depth : length here.waiting + deep.rest ≡ deep.rest = omega arith in
       let long : length p.globals ≤ length gs = omega arith in
-      let start1 = tied_start flow p accepted all n here none_kept gs fn.0 g.0 x [] (sym fn.2) (λ i. zero_fits) store state long (rows_start n) in
-      let body = body_ends flow p accepted all n here none_kept gs p.main deep.rest fn.0 g.0 x fn.1 at fronts refl base_is (calls_meet flow p accepted all n deep.rest here g.0.blocks (has_blocks flow here g.0 at) none_kept (gs ++ fn.0.arrays) (words_seen p fn.0) depth (fronts_on gs gs fn.0.arrays fronts)) (entered_source fn.0 [] store) s1 start1 in
-      let followed = follow n g.0 x.start (gs ++ fn.0.arrays) at x.at_start (does (place_of (length flow.globals) (length (map graph_words flow.globals))) (active p deep.rest n) n fn.0.body (entered_source fn.0 [] store)) body in
+      let handing : Handing flow p accepted all n fn.0 [] gs store state = record { kinds = fn.2; counts = numbers_are p accepted p.main fn.0 fn.1; rows = λ j l. absurd (omega arith) } in
+      let start1 = tied_start flow p accepted all n here none_kept gs fn.0 g.0 x [] refl (λ i. zero_fits) store state handing long (rows_start n) in
+      let body = body_ends flow p accepted all n here none_kept gs p.main deep.rest fn.0 g.0 x [] fn.1 at fronts refl base_is fn.2 (λ j l. absurd (omega arith)) (calls_meet flow p accepted all n deep.rest here g.0.blocks (has_blocks flow here g.0 at) none_kept (gs ++ fn.0.arrays) (sees_of p fn.0) depth (fronts_on gs gs fn.0.arrays (few_own p accepted p.main fn.0 fn.1) fronts)) (entered_source fn.0 [] store) s1 start1 in
+      let followed = follow n g.0 x.start (gs ++ fn.0.arrays) at x.at_start (does (spot_in (length flow.globals) [] (length (map graph_words flow.globals))) (active p deep.rest n) n fn.0.body (entered_source fn.0 [] store)) body in
       let bases : length (map graph_words flow.globals) ≡ length (map source_words p.globals) = base_is ∙ len ∙ sym (length-map p.globals source_words) in
       subst (λ d. FollowsAt (graph_run flow input) n (outcome_of (active p d n p.main [] store))) (sym deep.in_source)
       (subst (λ o. FollowsAt (graph_run flow input) n (outcome_of (activate (length p.globals) o (active p deep.rest n) n [] store))) (sym fn.1)
-      (subst (λ b. FollowsAt (graph_run flow input) n (outcome_of (result_of store (does (place_of (length p.globals) b) (active p deep.rest n) n fn.0.body (entered_source fn.0 [] store))))) bases
-      (subst (λ b. FollowsAt (graph_run flow input) n (outcome_of (result_of store (does (place_of b (length (map graph_words flow.globals))) (active p deep.rest n) n fn.0.body (entered_source fn.0 [] store))))) (count_globals flow p accepted all n) followed)))
+      (subst (λ b. FollowsAt (graph_run flow input) n (outcome_of (result_of store (does (place_in (length p.globals) [] b) (active p deep.rest n) n fn.0.body (entered_source fn.0 [] store))))) bases
+      (subst (λ b. FollowsAt (graph_run flow input) n (outcome_of (result_of store (does (place_in b [] (length (map graph_words flow.globals))) (active p deep.rest n) n fn.0.body (entered_source fn.0 [] store))))) (count_globals flow p accepted all n)
+      (subst (λ spot. FollowsAt (graph_run flow input) n (outcome_of (result_of store (does spot (active p deep.rest n) n fn.0.body (entered_source fn.0 [] store))))) (same_spots (length flow.globals) [] (length (map graph_words flow.globals))) followed))))
 
 pub lowering_holds : LoweringLaw
 lowering_holds p flow accepted all input numbers = follows_same (source p input) (graph_run flow input) (graph_run_steady flow input) (program_follows p flow accepted all input numbers)

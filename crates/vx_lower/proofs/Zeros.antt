@@ -9,16 +9,18 @@ use Rattle.vx_base.specs.declared.arithmetic.Code.TheVariants.{Add, Mov, ToBranc
 use Rattle.vx_base.specs.declared.arithmetic.Compare.TheVariants.{Lt}
 use Rattle.vx_ast.specs.Meaning.{Store, cleared, array_at}
 use Rattle.vx_ast.specs.Accepted.{Scope, is_in}
+use Rattle.vx_flow.specs.declared.graph.Operand.{Operand}
 use Rattle.vx_flow.specs.declared.graph.Operand.TheVariants.{Held, Number}
 use Rattle.vx_flow.specs.declared.graph.Op.TheVariants.{Compute, Place, Store as Keep}
 use Rattle.vx_flow.specs.declared.graph.Block.{Block}
-use Rattle.vx_flow.specs.Effects.{Content, State, with_value, with_cell, row_of, place_of}
+use Rattle.vx_flow.specs.Effects.{Content, State, held, with_value, with_cell, row_of, place_of}
 use Rattle.vx_flow.specs.Meaning.{Program}
+use Rattle.vx_lower.specs.Seen.{Sees, seen_at, size_at}
 use Rattle.vx_lower.specs.Holds.{Goes, jump}
 use Rattle.vx_lower.specs.Does.{Zeroes}
 use Rattle.vx_lower.proofs.Base.{SameRow, set_row, set_shape, length_of_row, is_below, one_up}
 use Rattle.vx_lower.proofs.Steps.{Here, setting_at, HasBlocks, Comes, comes_on, comes_goes, comes_past, comes_tests, later_jump, is_later}
-use Rattle.vx_lower.proofs.Ties.{InForce, Tied, Keeps, keeps_value, value_there, computes, stores, range_row, same_count, row_length, source_length, tied_row}
+use Rattle.vx_lower.proofs.Ties.{InForce, Above, Tied, Keeps, keeps_value, value_there, computes, stores, range_row, same_count, row_length, source_length, tied_row}
 use Rattle.vx_lower.proofs.Values.{zero_fits}
 
 -- the first k words are 0
@@ -72,7 +74,7 @@ set_same (x ∷ xs) (suc p) d = ap (λ zs. x ∷ zs) (set_same xs p d)
 less_test : (k size : ℕ) → compare_of Lt (pos k) (pos size) ≡ nat_lt k size
 less_test k size = refl
 
-module _ (P : Program) (h : Here) (B : List Block) (has : HasBlocks P h B) (vars a size : ℕ) where
+module _ (P : Program) (h : Here) (B : List Block) (has : HasBlocks P h B) (vars a size : ℕ) (size_op : Operand) where
   abbrev place : ℕ
   place = (setting_at P h).spot a
 
@@ -84,7 +86,7 @@ module _ (P : Program) (h : Here) (B : List Block) (has : HasBlocks P h B) (vars
     pub input : to.input ≡ s.input
     pub out : to.out ≡ s.out
 
-  module _ (p q : Block) (x : Zeroes B (Number (pos size)) vars a p q) (A : List (List Content)) (size_is : length (slice_index_or A ((setting_at P h).spot a) []) ≡ size) (small : size < 2 ^ 29) where
+  module _ (p q : Block) (x : Zeroes B size_op vars a p q) (A : List (List Content)) (size_is : length (slice_index_or A ((setting_at P h).spot a) []) ≡ size) (small : size < 2 ^ 29) (s0 : State) (sized : (u : State) → Keeps vars s0 u → held u size_op ≡ Some (pos size)) where
     abbrev After : ℕ → List (List Content)
     After k = slice_set A ((setting_at P h).spot a) (wiped k (slice_index_or A ((setting_at P h).spot a) []))
 
@@ -94,23 +96,23 @@ module _ (P : Program) (h : Here) (B : List Block) (has : HasBlocks P h B) (vars
     size_of : (k : ℕ) (s : State) → s.arrays ≡ After k → length (row_of s ((setting_at P h).spot a)) ≡ size
     size_of k s e = ap length (row_is k s e) ∙ length_wiped k (slice_index_or A ((setting_at P h).spot a) []) ∙ size_is
 
-    tested : (k : ℕ) (s : State) → s.values x.i ≡ Some (pos k) → Comes P h x.head s (cond (nat_lt k size) x.yes x.no) (with_value s x.c (Some (one_if (nat_lt k size))))
-    tested k s e = (comes_tests P h B has (Compute (ToBranch Lt) x.c (Held x.i) (Number (pos size))) x.c x.head x.yes x.no s (with_value s x.c (Some (one_if (nat_lt k size)))) (nat_lt k size) x.tests (computes (setting_at P h) (ToBranch Lt) x.c (Held x.i) (Number (pos size)) s (pos k) (pos size) e refl ∙ ap (λ b. Some (with_value s x.c (Some (one_if b)))) (less_test k size)) (value_there x.c s (Some (one_if (nat_lt k size))))).comes
+    tested : (k : ℕ) (s : State) → Keeps vars s0 s → s.values x.i ≡ Some (pos k) → Comes P h x.head s (cond (nat_lt k size) x.yes x.no) (with_value s x.c (Some (one_if (nat_lt k size))))
+    tested k s kept e = (comes_tests P h B has (Compute (ToBranch Lt) x.c (Held x.i) size_op) x.c x.head x.yes x.no s (with_value s x.c (Some (one_if (nat_lt k size)))) (nat_lt k size) x.tests (computes (setting_at P h) (ToBranch Lt) x.c (Held x.i) size_op s (pos k) (pos size) e (sized s kept) ∙ ap (λ b. Some (with_value s x.c (Some (one_if b)))) (less_test k size)) (value_there x.c s (Some (one_if (nat_lt k size))))).comes
 
-    wipes : (r k : ℕ) → k + r ≡ size → (s : State) → s.values x.i ≡ Some (pos k) → s.arrays ≡ After k → Wiped x.head s q A
-    wipes zero k e s at arr =
+    wipes : (r k : ℕ) → k + r ≡ size → (s : State) → Keeps vars s0 s → s.values x.i ≡ Some (pos k) → s.arrays ≡ After k → Wiped x.head s q A
+    wipes zero k e s kept at arr =
         let full : k ≡ size = omega arith in
         let b : nat_lt k size ≡ false = grind (arith, full) in
         let up = x.above in let ic = x.apart_c in
         record {
           to = with_value s x.c (Some (one_if (nat_lt k size)));
-          comes = comes_on P h (subst (λ v. Comes P h x.head s (cond v x.yes x.no) (with_value s x.c (Some (one_if (nat_lt k size))))) b (tested k s at)) (comes_goes P h B has q x.no (with_value s x.c (Some (one_if (nat_lt k size)))) x.ends_at);
+          comes = comes_on P h (subst (λ v. Comes P h x.head s (cond v x.yes x.no) (with_value s x.c (Some (one_if (nat_lt k size))))) b (tested k s kept at)) (comes_goes P h B has q x.no (with_value s x.c (Some (one_if (nat_lt k size)))) x.ends_at);
           arrays = arr ∙ ap (λ z. After z) full;
           keeps = keeps_value vars x.c s (Some (one_if (nat_lt k size))) (omega arith);
           input = refl;
           out = refl;
         }
-    wipes (suc r) k e s at arr =
+    wipes (suc r) k e s kept at arr =
         let lt : k < size = omega arith in
         let up = x.above in let ic = x.apart_c in let it = x.apart_t in
         let s1 : State = with_value s x.c (Some (one_if (nat_lt k size))) in
@@ -119,7 +121,7 @@ module _ (P : Program) (h : Here) (B : List Block) (has : HasBlocks P h B) (vars
         let i2 : s2.values x.i ≡ Some (pos k) = keeps_value x.t x.t s1 (Some (product_of (pos 4) (pos k))) (omega arith) x.i it ∙ i1 in
         let s3 : State = with_cell s2 ((setting_at P h).spot a) k (Some (pos 0)) in
         let s4 : State = with_value s3 x.i (Some (pos (k + 1))) in
-        let c1 : Comes P h x.head s x.yes s1 = subst (λ v. Comes P h x.head s (cond v x.yes x.no) s1) (is_below k size lt) (tested k s at) in
+        let c1 : Comes P h x.head s x.yes s1 = subst (λ v. Comes P h x.head s (cond v x.yes x.no) s1) (is_below k size lt) (tested k s kept at) in
         let c2 : Comes P h x.yes s1 x.store s2 = comes_past P h B has (Place x.t a (Held x.i)) x.yes x.store s1 s2 x.places (ap (λ v. Some (with_value s1 x.t (place_of v))) i1) in
         let c3 : Comes P h x.store s2 x.step s3 = comes_past P h B has (Keep a (Held x.t) (Number (pos 0))) x.store x.step s2 s3 x.stores (stores (setting_at P h) a k size (Held x.t) (Number (pos 0)) (pos 0) s2 small lt (size_of k s2 arr) (value_there x.t s1 (Some (product_of (pos 4) (pos k)))) refl) in
         let c4 : Comes P h x.step s3 x.last s4 = comes_past P h B has (Compute Add x.i (Held x.i) (Number (pos 1))) x.step x.last s3 s4 x.steps (computes (setting_at P h) Add x.i (Held x.i) (Number (pos 1)) s3 (pos k) (pos 1) i2 refl ∙ ap (λ v. Some (with_value s3 x.i (Some v))) (one_up k (omega arith))) in
@@ -131,7 +133,8 @@ module _ (P : Program) (h : Here) (B : List Block) (has : HasBlocks P h B) (vars
         ∙ ap (λ z. slice_set z ((setting_at P h).spot a) (wiped (suc k) (slice_index_or A ((setting_at P h).spot a) []))) arr
         ∙ set_twice A ((setting_at P h).spot a) (wiped k (slice_index_or A ((setting_at P h).spot a) [])) (wiped (suc k) (slice_index_or A ((setting_at P h).spot a) []))
         ∙ ap (λ z. After z) sk in
-        let w = wipes r (k + 1) e2 s4 (value_there x.i s3 (Some (pos (k + 1)))) a4 in
+        let k4 : Keeps vars s0 s4 = λ u l. keeps_value vars x.i s3 (Some (pos (k + 1))) up u l ∙ keeps_value vars x.t s1 (Some (product_of (pos 4) (pos k))) (omega arith) u l ∙ keeps_value vars x.c s (Some (one_if (nat_lt k size))) (omega arith) u l ∙ kept u l in
+        let w = wipes r (k + 1) e2 s4 k4 (value_there x.i s3 (Some (pos (k + 1)))) a4 in
         record {
           to = w.to;
           comes = comes_on P h c1 (comes_on P h c2 (comes_on P h c3 (comes_on P h c4 (comes_on P h c5 w.comes))));
@@ -142,13 +145,14 @@ module _ (P : Program) (h : Here) (B : List Block) (has : HasBlocks P h B) (vars
         }
 
     -- from the start
-    pub zeroes_run : (s : State) → s.arrays ≡ A → Wiped p s q A
-    zeroes_run s e =
+    pub zeroes_run : s0.arrays ≡ A → Wiped p s0 q A
+    zeroes_run e =
+        let s = s0 in
         let s1 : State = with_value s x.i (Some (pos 0)) in
         let c1 : Comes P h p s x.first s1 = comes_past P h B has (Compute Mov x.i (Number (pos 0)) (Number (pos 0))) p x.first s s1 x.starts refl in
         let c2 : Comes P h x.first s1 x.head s1 = is_later P h (later_jump P h B has x.first x.head x.h s1 x.enters x.at_head) in
         let z : 0 + size ≡ size = omega arith in
-        let w = wipes size 0 z s1 (value_there x.i s (Some (pos 0))) (e ∙ set_same A ((setting_at P h).spot a) []) in
+        let w = wipes size 0 z s1 (keeps_value vars x.i s (Some (pos 0)) x.above) (value_there x.i s (Some (pos 0))) (e ∙ set_same A ((setting_at P h).spot a) []) in
         record {
           to = w.to;
           comes = comes_on P h c1 (comes_on P h c2 w.comes);
@@ -159,9 +163,10 @@ module _ (P : Program) (h : Here) (B : List Block) (has : HasBlocks P h B) (vars
         }
 
 -- the tie after an array was set to zeros: it is then in force
-pub tied_zeroed : (globals : ℕ) (spot : ℕ → ℕ) (sc : Scope) (kept : ℕ → Type 0) (shapes : List ℕ) (a size : ℕ) (σ : Store) (s t : State) → Tied globals spot sc kept shapes σ s → slice_index_or shapes (spot a) 0 ≡ size → ((y : ℕ) → is_in y sc.scalars ≡ true → t.values y ≡ s.values y) → t.arrays ≡ slice_set s.arrays (spot a) (wiped size (slice_index_or s.arrays (spot a) [])) → t.input ≡ s.input → t.out ≡ s.out → Tied globals spot (record sc { arrays = a ∷ sc.arrays }) kept shapes (cleared σ (spot a)) t
-tied_zeroed globals spot sc kept shapes a size σ s t tied size_is keep arr inp out = record {
-  scalars = λ y i. keep y i ∙ tied.scalars y i;
+pub tied_zeroed : (globals : ℕ) (spot : ℕ → ℕ) (sc : Scope) (kept : ℕ → Type 0) (shapes : List ℕ) (words : Sees) (a size vars : ℕ) (σ : Store) (s t : State) → Above words sc vars → Tied globals spot sc kept shapes words σ s → slice_index_or shapes (spot a) 0 ≡ size → Keeps vars s t → t.arrays ≡ slice_set s.arrays (spot a) (wiped size (slice_index_or s.arrays (spot a) [])) → t.input ≡ s.input → t.out ≡ s.out → Tied globals spot (record sc { arrays = a ∷ sc.arrays }) kept shapes words (cleared σ (spot a)) t
+tied_zeroed globals spot sc kept shapes words a size vars σ s t above tied size_is keep arr inp out = record {
+  scalars = λ y i. keep y (let l = above.scalars y i in let f = above.few in omega arith) ∙ tied.scalars y i;
+  handed = λ d b c e. let h = above.handed d b c e in let v = tied.handed d b c e in (keep b h.1 ∙ v.0, keep c h.3 ∙ v.1);
   own = owns;
   others = λ p i. row p (tied.others p i);
   shape = ap (λ z. map (λ r. length r) z) arr ∙ set_shape s.arrays (spot a) (wiped size (slice_index_or s.arrays (spot a) [])) (length_wiped size (slice_index_or s.arrays (spot a) [])) ∙ tied.shape;
@@ -172,12 +177,12 @@ tied_zeroed globals spot sc kept shapes a size σ s t tied size_is keep arr inp 
 }
   where
     count : length σ.arrays ≡ length s.arrays
-    count = same_count globals spot kept shapes sc σ s tied
+    count = same_count globals spot kept shapes words sc σ s tied
 
     now : wiped size (slice_index_or s.arrays (spot a) []) ≡ map Some (map (λ z. pos 0) (array_at σ (spot a)))
     now =
-        let l1 : length (slice_index_or s.arrays (spot a) []) ≡ size = row_length globals spot kept shapes sc σ s (spot a) tied ∙ size_is in
-        let l2 : length (array_at σ (spot a)) ≡ size = source_length globals spot kept shapes sc σ s (spot a) tied ∙ size_is in
+        let l1 : length (slice_index_or s.arrays (spot a) []) ≡ size = row_length globals spot kept shapes words sc σ s (spot a) tied ∙ size_is in
+        let l2 : length (array_at σ (spot a)) ≡ size = source_length globals spot kept shapes words sc σ s (spot a) tied ∙ size_is in
         ap (λ z. wiped z (slice_index_or s.arrays (spot a) [])) (sym l1) ∙ all_wiped (slice_index_or s.arrays (spot a) []) (array_at σ (spot a)) (l1 ∙ sym l2)
 
     row : (p : ℕ) → SameRow σ.arrays s.arrays p → SameRow (cleared σ (spot a)).arrays t.arrays p

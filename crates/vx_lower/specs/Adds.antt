@@ -3,11 +3,11 @@ use Rattle.std.specs.Prelude.{◌≡◌, ℕ, pos, Option, Some, None, length}
 use Rattle.vx_base.specs.declared.outcome.Trap.{Trap}
 use Rattle.vx_base.specs.declared.arithmetic.Code.TheVariants.{Mov, ToBranch}
 use Rattle.vx_base.specs.declared.arithmetic.Compare.{Compare}
-use Rattle.vx_flow.specs.declared.graph.Bank.TheVariants.{Branch}
+use Rattle.vx_flow.specs.declared.graph.Bank.TheVariants.{General, Branch}
 use Rattle.vx_flow.specs.declared.graph.Operand.{Operand}
 use Rattle.vx_flow.specs.declared.graph.Operand.TheVariants.{Held, Number}
 use Rattle.vx_flow.specs.declared.graph.Op.{Op}
-use Rattle.vx_flow.specs.declared.graph.Op.TheVariants.{Compute}
+use Rattle.vx_flow.specs.declared.graph.Op.TheVariants.{Compute, Base}
 use Rattle.vx_flow.specs.declared.graph.Exit.TheVariants.{Goto, Split, Ends}
 use Rattle.vx_lower.specs.Holds.{ends}
 use Rattle.vx_lower.specs.Builds.{reserved, closed, filled, with_value, with_op}
@@ -42,6 +42,12 @@ pub record Last (op : Op) (dest : Option ℕ) (t : ℕ) (old new : Builder) : Ty
   pub middle : Builder
   pub aimed : Aimed dest t old middle
   pub added : Added op middle new
+
+-- a base of array a was made, in a value of its own
+pub record AddsBase (a : ℕ) (from : Operand) (v : ℕ) (old new : Builder) : Type 0 where
+  pub middle : Builder
+  pub taken : (v ≡ length old.banks) × (middle ≡ with_value old General)
+  pub added : Added (Base v a from) middle new
 
 -- a compare is tested: the open block is where it holds, and n where it does not
 pub record Compared (compare : Compare) (left right : Operand) (n : ℕ) (old new : Builder) : Type 0 where

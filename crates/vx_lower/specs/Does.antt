@@ -1,5 +1,5 @@
 -- A finished graph has the code of a statement, from the rest of one block to the rest of another.
-use Rattle.std.specs.Prelude.{◌≡◌, ℕ, ◌<◌, ◌≤◌, ℤ, pos, List, [], ◌∷◌, ◌++◌, map, Bool, true, false, Option, Some, None, slice_get, slice_index_or}
+use Rattle.std.specs.Prelude.{◌≡◌, ℕ, ◌<◌, ◌≤◌, ℤ, pos, List, [], ◌∷◌, ◌++◌, map, Bool, true, false, Option, Some, None, length, slice_get}
 use Rattle.vx_base.specs.declared.arithmetic.Code.TheVariants.{Add, Sub, Mov, ToBranch}
 use Rattle.vx_base.specs.declared.arithmetic.Compare.TheVariants.{Lt}
 use Rattle.vx_ast.specs.declared.tree.BinaryOperator.{BinaryOperator}
@@ -10,7 +10,8 @@ use Rattle.vx_flow.specs.declared.graph.Operand.TheVariants.{Held, Number}
 use Rattle.vx_flow.specs.declared.graph.Op.TheVariants.{Compute, Place as Places, Load, Store, Text, Decimal}
 use Rattle.vx_flow.specs.declared.graph.Exit.TheVariants.{Call, Return as Returns}
 use Rattle.vx_flow.specs.declared.graph.Block.{Block}
-use Rattle.vx_lower.specs.Holds.{Goes, IsBelow, Tests, size_at, Checks, Combines, To, Into, Tested, Holds, then_op, ends, jump}
+use Rattle.vx_lower.specs.Seen.{Sees, size_at}
+use Rattle.vx_lower.specs.Holds.{Goes, IsBelow, Tests, Checks, Combines, To, Into, Tested, Holds, then_op, ends, jump}
 
 -- how the new value of a target follows from the old one
 pub data Change : Type 0 where
@@ -24,7 +25,7 @@ action_of target Up = Increase target
 action_of target Down = Decrease target
 
 -- from p on the new value is made of the old one, which is below lo, and comes into t
-pub data Changes (B : List Block) (words : List ℕ) (lo : ℕ) (old : Operand) : Change → Block → ℕ → Block → Type 0 where
+pub data Changes (B : List Block) (words : Sees) (lo : ℕ) (old : Operand) : Change → Block → ℕ → Block → Type 0 where
   by : {operator : BinaryOperator} {e : Tree One} {o : Operand} {p m q : Block} {t at : ℕ} → Holds B words One e p (To (o ∷ []) m) lo → lo ≤ at → IsBelow at o → Combines B at operator old o m t q → Changes B words lo old (By operator e) p t q
   up : {p q : Block} {t : ℕ} → Goes B (then_op (Compute Add t old (Number (pos 1))) q) p → Changes B words lo old Up p t q
   down : {p q : Block} {t : ℕ} → Goes B (then_op (Compute Sub t old (Number (pos 1))) q) p → Changes B words lo old Down p t q
@@ -33,8 +34,8 @@ abbrev pub is_call : {k : Shape} → Tree k → Bool
 is_call (Apply f row) = true
 is_call t = false
 
--- vars: the values from here on are no scalars
-pub data Acts (B : List Block) (words : List ℕ) (vars : ℕ) : Action → Block → Block → Type 0 where
+-- vars: the values from here on hold neither scalars nor what was handed over
+pub data Acts (B : List Block) (words : Sees) (vars : ℕ) : Action → Block → Block → Type 0 where
   evaluate : {e : Tree One} {os : List Operand} {p q : Block} {lo : ℕ} → is_call e ≡ false → Holds B words One e p (To os q) lo → vars ≤ lo → Acts B words vars (Evaluate e) p q
   -- a call whose result is not used
   call : {f next lo : ℕ} {row : Tree Row} {os : List Operand} {p m q : Block} → Holds B words Row row p (To os m) lo → vars ≤ lo → Goes B (ends (Call f os None next)) m → slice_get B next ≡ Some q → Acts B words vars (Evaluate (Apply f row)) p q
@@ -78,19 +79,19 @@ pub data Shows (B : List Block) (texts : List (List ℕ)) : List Piece → List 
   bytes : {pieces : List Piece} {os : List Operand} {p m q : Block} (n : ℕ) (text : List ℕ) → slice_get texts n ≡ Some text → Goes B (then_op (Text n) m) p → Shows B texts pieces os m q → Shows B texts (map AByte text ++ pieces) os p q
 
 -- the test of a loop, where there is one
-pub data Asks (B : List Block) (words : List ℕ) (vars : ℕ) : Option (Tree One) → Block → Block → Block → Type 0 where
+pub data Asks (B : List Block) (words : Sees) (vars : ℕ) : Option (Tree One) → Block → Block → Block → Type 0 where
   always : {p yes no : Block} → Goes B yes p → Asks B words vars None p yes no
   asks : {e : Tree One} {p yes no : Block} {lo : ℕ} → Holds B words One e p (Tested yes no) lo → vars ≤ lo → Asks B words vars (Some e) p yes no
 
 -- out: where a break leads; more: where a continue leads
-pub data Does (B : List Block) (words : List ℕ) (texts : List (List ℕ)) (vars : ℕ) : Code → Block → Block → Block → Block → Type 0 where
+pub data Does (B : List Block) (words : Sees) (texts : List (List ℕ)) (vars : ℕ) : Code → Block → Block → Block → Block → Type 0 where
   nothing : {p out more : Block} → Does B words texts vars Nothing p p out more
   seq : {a b : Code} {p m q out more : Block} → Does B words texts vars a p m out more → Does B words texts vars b m q out more → Does B words texts vars (Seq a b) p q out more
   empty : {p out more : Block} → Does B words texts vars Empty p p out more
   braces : {a : Code} {p q out more : Block} → Does B words texts vars a p q out more → Does B words texts vars (Braces a) p q out more
-  clear : {x : ℕ} {p q out more : Block} → x < vars → Goes B (then_op (Compute Mov x (Number (pos 0)) (Number (pos 0))) q) p → Does B words texts vars (Clear x) p q out more
-  declare : {x lo : ℕ} {e : Tree One} {p q out more : Block} → Holds B words One e p (Into x q) lo → vars ≤ lo → x < vars → Does B words texts vars (Declare x e) p q out more
-  clear_array : {a : ℕ} {p q out more : Block} → Zeroes B (size_at words a) vars a p q → Does B words texts vars (ClearArray a) p q out more
+  clear : {x : ℕ} {p q out more : Block} → x < words.scalars → Goes B (then_op (Compute Mov x (Number (pos 0)) (Number (pos 0))) q) p → Does B words texts vars (Clear x) p q out more
+  declare : {x lo : ℕ} {e : Tree One} {p q out more : Block} → Holds B words One e p (Into x q) lo → vars ≤ lo → x < words.scalars → Does B words texts vars (Declare x e) p q out more
+  clear_array : {a : ℕ} {p q out more : Block} → a < length words.arrays → Zeroes B (size_at words a) vars a p q → Does B words texts vars (ClearArray a) p q out more
   simply : {a : Action} {p q out more : Block} → Acts B words vars a p q → Does B words texts vars (Simply a) p q out more
   head : {a : Action} {p q out more : Block} → Acts B words vars a p q → Does B words texts vars (Head a) p q out more
   print : {format : List ℕ} {row : Tree Row} {os : List Operand} {p m q out more : Block} {lo : ℕ} → Holds B words Row row p (To os m) lo → vars ≤ lo → Shows B texts (pieces_of format) os m q → Does B words texts vars (Print format row) p q out more

@@ -9,15 +9,18 @@ use Rattle.vx_ast.specs.declared.tree.UnaryOperator.{UnaryOperator}
 use Rattle.vx_ast.specs.declared.tree.UnaryOperator.TheVariants.{Minus, Plus, Not, Complement}
 use Rattle.vx_ast.specs.declared.tree.BinaryOperator.{BinaryOperator}
 use Rattle.vx_ast.specs.declared.tree.BinaryOperator.TheVariants.{Multiply, Divide, Remainder, Add as Adds, Subtract, ShiftLeft, ShiftRight, Less, LessEqual, Greater, GreaterEqual, Equal, NotEqual, BitAnd, BitXor, BitOr}
-use Rattle.vx_ast.specs.Tree.{Shape, One, Row, Tree, Literal, Local, Global, Element, Unary, Binary, Both, Either, Choice, Apply, ReadInt, MoreInput, NoMore, Then}
+use Rattle.vx_ast.specs.Tree.{Shape, One, Row, Tree, Literal, Local, Global, Element, Unary, Binary, Both, Either, Choice, Apply, ReadInt, MoreInput, NoMore, Then, Hand}
 use Rattle.vx_ast.specs.Meaning.{divides}
 use Rattle.vx_flow.specs.declared.graph.Operand.{Operand}
 use Rattle.vx_flow.specs.declared.graph.Operand.TheVariants.{Held, Number, Stack}
 use Rattle.vx_flow.specs.declared.graph.Op.{Op}
-use Rattle.vx_flow.specs.declared.graph.Op.TheVariants.{Compute, Place, Load, Store, More, Input}
+use Rattle.vx_flow.specs.declared.graph.Op.TheVariants.{Compute, Load, More, Input, Base}
 use Rattle.vx_flow.specs.declared.graph.Exit.{Exit}
 use Rattle.vx_flow.specs.declared.graph.Exit.TheVariants.{Goto, Split, Call, Ends}
 use Rattle.vx_flow.specs.declared.graph.Block.{Block}
+use Rattle.vx_lower.specs.declared.seen.Seen.{Seen}
+use Rattle.vx_lower.specs.declared.seen.Seen.TheVariants.{GlobalArray, OwnArray, Handed}
+use Rattle.vx_lower.specs.Seen.{Sees, seen_at, size_at, place_op}
 
 -- a point of a graph is the rest of a block
 
@@ -51,20 +54,15 @@ pub record Tests (B : List Block) (op : Op) (c : ℕ) (p yes no : Block) : Type 
   pub at_yes : slice_get B y ≡ Some yes
   pub at_no : slice_get B n ≡ Some no
 
--- the size of array a, which is a number
-abbrev pub size_at : List ℕ → ℕ → Operand
-size_at words a = Number (pos (slice_index_or words a 0))
-
--- the index in o is tested against the size of array a, and its place is in t
-pub record Checks (B : List Block) (words : List ℕ) (a lo t : ℕ) (o : Operand) (p q : Block) : Type 0 where
+-- the index in o is tested against the size of array a, and its place is in t, which is below the test
+pub record Checks (B : List Block) (words : Sees) (a lo t : ℕ) (o : Operand) (p q : Block) : Type 0 where
   pub place : Block
   pub no : Block
   pub c : ℕ
-  pub goes : Goes B (then_op (Place t a o) place) p
+  pub goes : Goes B (then_op (place_op words t a o) place) p
   pub tests : Tests B (Compute (ToBranch Ltu) c o (size_at words a)) c place q no
   pub stops : Goes B (ends (Ends ByIndex)) no
   pub free : IsBelow t o
-  pub sized : IsBelow t (size_at words a)
   pub above : t < c
   pub fresh : lo ≤ t
 
@@ -120,8 +118,14 @@ pub data Lands (lo : ℕ) : Way One → ℕ → Block → Type 0 where
   fresh : {t : ℕ} {q : Block} → lo ≤ t → Lands lo (To (Held t ∷ []) q) t q
   into : {t : ℕ} {q : Block} → Lands lo (Into t q) t q
 
+-- where array a stands is in v, which is one of the own values below mid, or was handed over
+pub data Bases (B : List Block) (a lo mid : ℕ) : Seen → ℕ → Block → Block → Type 0 where
+  of_global : {words v : ℕ} {p q : Block} → lo ≤ v → v < mid → Goes B (then_op (Base v a (Number (pos 0))) q) p → Bases B a lo mid (GlobalArray words) v p q
+  of_own : {words v : ℕ} {p q : Block} → lo ≤ v → v < mid → Goes B (then_op (Base v a Stack) q) p → Bases B a lo mid (OwnArray words) v p q
+  given : {base size : ℕ} {p : Block} → lo ≤ mid → Bases B a lo mid (Handed base size) base p p
+
 -- the code of an expression, or of a row of arguments; its own values are not below lo
-pub data Holds (B : List Block) (words : List ℕ) : (k : Shape) → Tree k → Block → Way k → ℕ → Type 0 where
+pub data Holds (B : List Block) (words : Sees) : (k : Shape) → Tree k → Block → Way k → ℕ → Type 0 where
   literal : {z : ℤ} {p : Block} {lo : ℕ} → Holds B words One (Literal z) p (To (Number z ∷ []) p) lo
   local : {x : ℕ} {p : Block} {lo : ℕ} → Holds B words One (Local x) p (To (Held x ∷ []) p) lo
   global : {a u lo : ℕ} {p q : Block} {w : Way One} → Goes B (then_op (Load u a (Number (pos 0)) false) q) p → Lands lo w u q → Holds B words One (Global a) p w lo
@@ -146,3 +150,5 @@ pub data Holds (B : List Block) (words : List ℕ) : (k : Shape) → Tree k → 
   -- rows
   no_more : {p : Block} {lo : ℕ} → Holds B words Row NoMore p (To [] p) lo
   then : {a : Tree One} {rest : Tree Row} {o : Operand} {os : List Operand} {p m q : Block} {lo mid : ℕ} → Holds B words One a p (To (o ∷ []) m) lo → lo ≤ mid → IsBelow mid o → Holds B words Row rest m (To os q) mid → Holds B words Row (Then a rest) p (To (o ∷ os) q) lo
+  -- an array that is handed over: where it stands, and how many words it has
+  hand : {a v : ℕ} {rest : Tree Row} {os : List Operand} {p m q : Block} {lo mid : ℕ} → Bases B a lo mid (seen_at words a) v p m → lo ≤ mid → Holds B words Row rest m (To os q) mid → Holds B words Row (Hand a rest) p (To (Held v ∷ size_at words a ∷ os) q) lo

@@ -1,5 +1,6 @@
 pub mod FlowOf
 pub mod LoweredGraphs
+pub mod Seen
 pub mod Holds
 pub mod Does
 pub mod Lowered

@@ -11,6 +11,7 @@ use Rattle.vx_flow.specs.declared.graph.Op.TheVariants.{Compute, Place as Places
 use Rattle.vx_flow.specs.declared.graph.Exit.{Exit}
 use Rattle.vx_flow.specs.declared.graph.Exit.TheVariants.{Goto, Return as Returns}
 use Rattle.vx_flow.specs.declared.graph.Block.{Block}
+use Rattle.vx_lower.specs.Seen.{Sees}
 use Rattle.vx_lower.specs.Holds.{IsBelow, Goes, Lands, then_op, ends}
 use Rattle.vx_lower.specs.Does.{Change, By, Up, Down, Changes, Acts, Shows, Asks, Does}
 use Rattle.vx_lower.specs.Builds.{Ready, Grows, Finishes, Opens, From}
@@ -47,26 +48,26 @@ abbrev pub TestWithin : ℕ → Option (Tree One) → Type 0
 TestWithin vars None = Unit {0}
 TestWithin vars (Some e) = IsWithin vars e
 
-abbrev pub CodeWithin : ℕ → Code → Type 0
-CodeWithin vars Nothing = Unit {0}
-CodeWithin vars (Seq a b) = CodeWithin vars a × CodeWithin vars b
-CodeWithin vars Empty = Unit {0}
-CodeWithin vars (Braces a) = CodeWithin vars a
-CodeWithin vars (Clear x) = x < vars
-CodeWithin vars (Declare x e) = (x < vars) × IsWithin vars e
-CodeWithin vars (ClearArray a) = Unit {0}
-CodeWithin vars (Simply a) = ActionWithin vars a
-CodeWithin vars (Head a) = ActionWithin vars a
-CodeWithin vars (Print format row) = (numbers_in (pieces_of format) ≤ row_length row) × IsWithin vars row
-CodeWithin vars (If e a) = IsWithin vars e × CodeWithin vars a
-CodeWithin vars (IfElse e a b) = IsWithin vars e × CodeWithin vars a × CodeWithin vars b
-CodeWithin vars (While e a) = IsWithin vars e × CodeWithin vars a
-CodeWithin vars (DoWhile a e) = CodeWithin vars a × IsWithin vars e
-CodeWithin vars (For first test step a) = CodeWithin vars first × TestWithin vars test × CodeWithin vars step × CodeWithin vars a
-CodeWithin vars Break = Unit {0}
-CodeWithin vars Continue = Unit {0}
-CodeWithin vars Return = Unit {0}
-CodeWithin vars (ReturnValue e) = IsWithin vars e
+abbrev pub CodeWithin : Sees → ℕ → Code → Type 0
+CodeWithin sees vars Nothing = Unit {0}
+CodeWithin sees vars (Seq a b) = CodeWithin sees vars a × CodeWithin sees vars b
+CodeWithin sees vars Empty = Unit {0}
+CodeWithin sees vars (Braces a) = CodeWithin sees vars a
+CodeWithin sees vars (Clear x) = x < sees.scalars
+CodeWithin sees vars (Declare x e) = (x < sees.scalars) × IsWithin vars e
+CodeWithin sees vars (ClearArray a) = a < length sees.arrays
+CodeWithin sees vars (Simply a) = ActionWithin vars a
+CodeWithin sees vars (Head a) = ActionWithin vars a
+CodeWithin sees vars (Print format row) = (numbers_in (pieces_of format) ≤ row_length row) × IsWithin vars row
+CodeWithin sees vars (If e a) = IsWithin vars e × CodeWithin sees vars a
+CodeWithin sees vars (IfElse e a b) = IsWithin vars e × CodeWithin sees vars a × CodeWithin sees vars b
+CodeWithin sees vars (While e a) = IsWithin vars e × CodeWithin sees vars a
+CodeWithin sees vars (DoWhile a e) = CodeWithin sees vars a × IsWithin vars e
+CodeWithin sees vars (For first test step a) = CodeWithin sees vars first × TestWithin vars test × CodeWithin sees vars step × CodeWithin sees vars a
+CodeWithin sees vars Break = Unit {0}
+CodeWithin sees vars Continue = Unit {0}
+CodeWithin sees vars Return = Unit {0}
+CodeWithin sees vars (ReturnValue e) = IsWithin vars e
 
 -- simple statements
 
@@ -75,13 +76,13 @@ step_change true = Up
 step_change false = Down
 
 -- the new value is made of the old one, and is in t
-pub record Alters (words : List ℕ) (c : Change) (from : Operand) (dest : Option ℕ) (t : ℕ) (old new : Builder) : Type 0 where
+pub record Alters (words : Sees) (c : Change) (from : Operand) (dest : Option ℕ) (t : ℕ) (old new : Builder) : Type 0 where
   pub grows : Grows old new
   pub below : dest ≡ None → t < length new.banks
   pub lands : (q : Block) → Lands (length old.banks) (way_of dest (Held t) q) t q
   pub code : ChangeWithin (length old.banks) c → IsBelow (length old.banks) from → (B : List Block) (q : Block) → Finishes B new → Opens B new q → From B old (λ p. Changes B words (length old.banks) from c p t q)
 
-pub record Acted (words : List ℕ) (a : Action) (old new : Builder) : Type 0 where
+pub record Acted (words : Sees) (a : Action) (old new : Builder) : Type 0 where
   pub grows : Grows old new
   pub code : (vars : ℕ) → ActionWithin vars a → vars ≤ length old.banks → (B : List Block) (q : Block) → Finishes B new → Opens B new q → From B old (λ p. Acts B words vars a p q)
 
@@ -98,18 +99,18 @@ pub record Begins (front whole : List (List ℕ)) : Type 0 where
   pub is : whole ≡ front ++ more
 
 -- the code of what neither prints nor is left but at its end
-pub record MakesPlain (words : List ℕ) (s : Code) (old new : Builder) : Type 0 where
+pub record MakesPlain (words : Sees) (s : Code) (old new : Builder) : Type 0 where
   pub grows : Grows old new
-  pub code : (vars : ℕ) → CodeWithin vars s → vars ≤ length old.banks → (B : List Block) (texts : List (List ℕ)) (q out more : Block) → Finishes B new → Opens B new q → From B old (λ p. Does B words texts vars s p q out more)
+  pub code : (vars : ℕ) → CodeWithin words vars s → vars ≤ length old.banks → (B : List Block) (texts : List (List ℕ)) (q out more : Block) → Finishes B new → Opens B new q → From B old (λ p. Does B words texts vars s p q out more)
 
 -- the code of a statement; leaves and again tell where a break and a continue lead
-pub record Makes (words : List ℕ) (s : Code) (leaves again : Option ℕ) (old new : Builder) (before after : List (List ℕ)) : Type 0 where
+pub record Makes (words : Sees) (s : Code) (leaves again : Option ℕ) (old new : Builder) (before after : List (List ℕ)) : Type 0 where
   pub grows : Grows old new
   pub texts : Begins before after
-  pub code : (vars : ℕ) → CodeWithin vars s → vars ≤ length old.banks → (B : List Block) (texts : List (List ℕ)) (q : Block) → Begins after texts → Finishes B new → Opens B new q → From B old (λ p. Does B words texts vars s p q (ends (way_exit leaves)) (ends (way_exit again)))
+  pub code : (vars : ℕ) → CodeWithin words vars s → vars ≤ length old.banks → (B : List Block) (texts : List (List ℕ)) (q : Block) → Begins after texts → Finishes B new → Opens B new q → From B old (λ p. Does B words texts vars s p q (ends (way_exit leaves)) (ends (way_exit again)))
 
 -- the test of a loop: the open block is where it holds, and n where it does not
-pub record MakesTest (words : List ℕ) (test : Option (Tree One)) (n : ℕ) (old new : Builder) : Type 0 where
+pub record MakesTest (words : Sees) (test : Option (Tree One)) (n : ℕ) (old new : Builder) : Type 0 where
   pub grows : Grows old new
   pub spare : Spare new n
   pub late : length old.blocks ≤ n

@@ -1,5 +1,5 @@
 -- The shape of the graph that a graph which is being made becomes, once its blocks are finished.
-use Rattle.std.specs.Prelude.{◌≡◌, ℕ, ◌<◌, ◌≤◌, pos, true, List, length, Option, Some, None, slice_get}
+use Rattle.std.specs.Prelude.{◌≡◌, ◌⊎◌, ℕ, ◌<◌, ◌≤◌, pos, true, false, List, [], ◌∷◌, length, Option, Some, None, slice_get}
 use Rattle.vx_base.specs.declared.outcome.Trap.{Trap}
 use Rattle.vx_flow.specs.declared.graph.Operand.{Operand}
 use Rattle.vx_flow.specs.declared.graph.Operand.TheVariants.{Number}
@@ -8,7 +8,11 @@ use Rattle.vx_flow.specs.declared.graph.Exit.TheVariants.{Split, Call, Return, E
 use Rattle.vx_flow.specs.declared.graph.Block.{Block}
 use Rattle.vx_flow.specs.declared.graph.Graph.{Graph}
 use Rattle.vx_flow.specs.Effects.{IsIn}
-use Rattle.vx_flow.specs.Sound.{HasOperation, HasExit, is_sound}
+use Rattle.vx_flow.specs.Sound.{HasOperation, HasExit, is_base_operand, is_sound}
+use Rattle.vx_ast.specs.declared.tree.Takes.{Takes}
+use Rattle.vx_ast.specs.declared.tree.Takes.TheVariants.{Number as TakesNumber, Array as TakesArray}
+use Rattle.vx_lower.specs.declared.seen.Seen.TheVariants.{Handed}
+use Rattle.vx_lower.specs.Seen.{Sees, arrays_from}
 use Rattle.vx_lower.specs.FlowOf.{IsEdge}
 use Rattle.vx_lower.specs.LoweredGraphs.{NoneDismissible}
 use Rattle.vx_lower.specs.Holds.{ends, jump}
@@ -30,12 +34,27 @@ pub record Settled (slots : List (Option Block)) (blocks : List Block) : Type 0 
 abbrev pub finally : Builder → Builder
 finally b = closed b (Return (Number (pos 0))) b.current
 
-pub record WellShaped (k : Known) (texts : ℕ) (g : Graph) : Type 0 where
+-- what is passed is a base exactly where an array is taken
+abbrev pub HandsOver : Graph → List Takes → List Operand → Type 0
+HandsOver g [] [] = Unit {0}
+HandsOver g [] (x ∷ xs) = ⊥
+HandsOver g (TakesNumber ∷ takes) [] = ⊥
+HandsOver g (TakesNumber ∷ takes) (x ∷ xs) = (is_base_operand g x ≡ false) × HandsOver g takes xs
+HandsOver g (TakesArray ∷ takes) [] = ⊥
+HandsOver g (TakesArray ∷ takes) (x ∷ []) = ⊥
+HandsOver g (TakesArray ∷ takes) (x ∷ y ∷ xs) = (is_base_operand g x ≡ true) × (is_base_operand g y ≡ false) × HandsOver g takes xs
+
+-- the parameters are scalars, and the values of all that is handed over
+pub record ArePassed (words : Sees) (parameters : List ℕ) : Type 0 where
+  pub known : (v : ℕ) → IsIn v parameters → (v < words.scalars) ⊎ ((a base size : ℕ) × (slice_get words.arrays a ≡ Some (Handed base size)) × ((v ≡ base) ⊎ (v ≡ size)))
+  pub bases : (a base size : ℕ) → slice_get words.arrays a ≡ Some (Handed base size) → IsIn base parameters
+
+pub record WellShaped {words : Sees} (k : Known words) (texts : ℕ) (g : Graph) : Type 0 where
   pub sound : is_sound g ≡ true
   pub some : 0 < length g.blocks
   pub loads : NoneDismissible g
   pub texts_there : (n : ℕ) → HasOperation g (Text n) → n < texts
-  pub calls : (f : ℕ) (arguments : List Operand) (result : Option ℕ) (next : ℕ) → HasExit g (Call f arguments result next) → TakesArguments k f (length arguments)
+  pub calls : (f : ℕ) (arguments : List Operand) (result : Option ℕ) (next : ℕ) → HasExit g (Call f arguments result next) → (takes : List Takes) × TakesArguments k f takes × HandsOver g takes arguments
   pub apart : (b : ℕ) (block : Block) (test y z : ℕ) → slice_get g.blocks b ≡ Some block → block.exit ≡ Split test y z → y ≡ z → ⊥
   -- where two edges leave a block and one of them leads to d, no other block has an edge to d
   pub uncritical : (b c d e : ℕ) → IsEdge g b c → IsEdge g b d → (c ≡ d → ⊥) → IsEdge g e d → e ≡ b
@@ -43,4 +62,4 @@ pub record WellShaped (k : Known) (texts : ℕ) (g : Graph) : Type 0 where
 
 -- a graph that is made of one that was well shaped at its end is well shaped
 abbrev pub ShapeLaw : Type 0
-ShapeLaw = (k : Known) (texts : ℕ) (roles : List Role) (b : Builder) (g : Graph) → Shaped k texts roles b → Settled (finally b).blocks g.blocks → g.banks ≡ b.banks → length g.arrays ≡ k.arrays → ((v : ℕ) → IsIn v g.parameters → v < k.scalars) → WellShaped k texts g
+ShapeLaw = (words : Sees) (k : Known words) (texts : ℕ) (roles : List Role) (b : Builder) (g : Graph) → Shaped k texts roles b → Settled (finally b).blocks g.blocks → g.banks ≡ b.banks → g.arrays ≡ arrays_from 0 words.arrays → ArePassed words g.parameters → WellShaped k texts g

@@ -1,21 +1,22 @@
 // The code of simple statements: the place of what is changed is found first and once.
 
-ghost use Rattle.std.specs.Prelude.{◌≡◌, ℕ, List, true, false, IfOk, OnOk};
+ghost use Rattle.std.specs.Prelude.{◌≡◌, ℕ, true, false, IfOk, OnOk};
 ghost use Rattle.vx_ast.specs.Tree.{Apply, Assign, Compound, Evaluate};
-ghost use Rattle.vx_ast.specs.View.{action_of, place_of, row_in, tree_of};
+ghost use Rattle.vx_ast.specs.View.{action_of, arguments_in, place_of, tree_of};
 ghost use Rattle.vx_flow.specs.declared.graph.Op.TheVariants.{Store};
 ghost use Rattle.vx_lower.specs.Adds.{Added};
 ghost use Rattle.vx_lower.specs.Builds.{Puts, Ready};
 ghost use Rattle.vx_lower.specs.Does.{By, action_of as change_of};
 ghost use Rattle.vx_lower.specs.Fits.{ActsWell, AltersWell};
+ghost use Rattle.vx_lower.specs.Seen.{Sees};
 ghost use Rattle.vx_lower.specs.Makes.{Acted, Alters, step_change};
 
 use crate::builder::Builder;
-use crate::expressions::{emit_row, emit_value};
+use crate::expressions::{emit_arguments, emit_value};
 use crate::pieces::{check, combine, compute, load};
 use crate::sizes::Sizes;
 use std::alloc::Global;
-use vx_ast::tree::{BinaryOperator, Expression, Simple, Target};
+use vx_ast::tree::{Argument, BinaryOperator, Expression, Simple, Target};
 use vx_base::arithmetic::Code;
 use vx_base::outcome::NoMemory;
 use vx_flow::graph::{ArrayId, Exit, Op, Operand, Value};
@@ -39,12 +40,12 @@ fn emit_call(
     alloc: Global,
     words: &Sizes,
     function: u32,
-    all: &[Expression],
+    all: &[Argument],
 ) -> Result<(), NoMemory>
-    ensures code { OnOk result (Ready b.old → Acted words.now (Evaluate (Apply function (row_in all.now))) b.old b.new) }
-    ensures fits { OnOk result (ActsWell (Evaluate (Apply function (row_in all.now))) b.old b.new) }
+    ensures code { OnOk result (Ready b.old → Acted words.now (Evaluate (Apply function (arguments_in all.now))) b.old b.new) }
+    ensures fits { OnOk result (ActsWell words.now (Evaluate (Apply function (arguments_in all.now))) b.old b.new) }
 {
-    let arguments = emit_row(b, alloc, words, all)?;
+    let arguments = emit_arguments(b, alloc, words, all)?;
     let next = b.reserve()?;
     b.close(
         alloc,
@@ -62,7 +63,7 @@ fn emit_call(
 /// An expression, for what it does.
 fn evaluate(b: &mut Builder, alloc: Global, words: &Sizes, e: &Expression) -> Result<(), NoMemory>
     ensures code { OnOk result (Ready b.old → Acted words.now (Evaluate (tree_of e.now)) b.old b.new) }
-    ensures fits { OnOk result (ActsWell (Evaluate (tree_of e.now)) b.old b.new) }
+    ensures fits { OnOk result (ActsWell words.now (Evaluate (tree_of e.now)) b.old b.new) }
 {
     match e {
         Expression::Call(function, all) => emit_call(b, alloc, words, *function, all.as_slice()),
@@ -92,7 +93,7 @@ fn assign(
     e: &Expression,
 ) -> Result<(), NoMemory>
     ensures code { OnOk result (Ready b.old → Acted words.now (Assign (place_of target.now) (tree_of e.now)) b.old b.new) }
-    ensures fits { OnOk result (ActsWell (Assign (place_of target.now) (tree_of e.now)) b.old b.new) }
+    ensures fits { OnOk result (ActsWell words.now (Assign (place_of target.now) (tree_of e.now)) b.old b.new) }
 {
     match target {
         Target::Scalar(x) => {
@@ -123,7 +124,7 @@ fn combined(
     dest: Option<Value>,
 ) -> Result<Value, NoMemory>
     ensures code { IfOk result (λ t. Ready b.old → Alters words.now (By operator (tree_of e.now)) old dest t b.old b.new) }
-    ensures fits { IfOk result (λ t. AltersWell (By operator (tree_of e.now)) old dest t b.old b.new) }
+    ensures fits { IfOk result (λ t. AltersWell words.now (By operator (tree_of e.now)) old dest t b.old b.new) }
 {
     let right = emit_value(b, alloc, words, e, None)?;
     combine(b, alloc, operator, old, right, dest)
@@ -139,7 +140,7 @@ fn compound(
     e: &Expression,
 ) -> Result<(), NoMemory>
     ensures code { OnOk result (Ready b.old → Acted words.now (Compound (place_of target.now) operator (tree_of e.now)) b.old b.new) }
-    ensures fits { OnOk result (ActsWell (Compound (place_of target.now) operator (tree_of e.now)) b.old b.new) }
+    ensures fits { OnOk result (ActsWell words.now (Compound (place_of target.now) operator (tree_of e.now)) b.old b.new) }
 {
     match target {
         Target::Scalar(x) => {
@@ -169,8 +170,8 @@ fn stepped(
     up: bool,
     dest: Option<Value>,
 ) -> Result<Value, NoMemory>
-    ensures code { IfOk result (λ t. (words : List ℕ) → Ready b.old → Alters words (step_change up) old dest t b.old b.new) }
-    ensures fits { IfOk result (λ t. AltersWell (step_change up) old dest t b.old b.new) }
+    ensures code { IfOk result (λ t. (words : Sees) → Ready b.old → Alters words (step_change up) old dest t b.old b.new) }
+    ensures fits { IfOk result (λ t. (words : Sees) → AltersWell words (step_change up) old dest t b.old b.new) }
 {
     let code = if up { Code::Add } else { Code::Sub };
     compute(b, alloc, code, old, Operand::Number(1), dest)
@@ -185,7 +186,7 @@ fn step(
     up: bool,
 ) -> Result<(), NoMemory>
     ensures code { OnOk result (Ready b.old → Acted words.now (change_of (place_of target.now) (step_change up)) b.old b.new) }
-    ensures fits { OnOk result (ActsWell (change_of (place_of target.now) (step_change up)) b.old b.new) }
+    ensures fits { OnOk result (ActsWell words.now (change_of (place_of target.now) (step_change up)) b.old b.new) }
 {
     match target {
         Target::Scalar(x) => {
@@ -215,7 +216,7 @@ pub fn emit_action(
     action: &Simple,
 ) -> Result<(), NoMemory>
     ensures code { OnOk result (Ready b.old → Acted words.now (action_of action.now) b.old b.new) }
-    ensures fits { OnOk result (ActsWell (action_of action.now) b.old b.new) }
+    ensures fits { OnOk result (ActsWell words.now (action_of action.now) b.old b.new) }
 {
     match action {
         Simple::Evaluate(e) => evaluate(b, alloc, words, e),

@@ -1,26 +1,28 @@
 // The code of expressions and of rows of arguments. The left operand comes first; an operand is evaluated only where it
 // is needed.
 
-ghost use Rattle.std.specs.Prelude.{◌≡◌, ℕ, pos, length, IfOk, Option, Some, None};
+ghost use Rattle.std.specs.Prelude.{◌≡◌, ℕ, pos, length, IfOk, OnOk, Option, Some, None};
 ghost use Rattle.vx_base.specs.declared.arithmetic.Compare.TheVariants.{Ne};
-ghost use Rattle.vx_ast.specs.View.{tree_of, row_in};
+ghost use Rattle.vx_ast.specs.View.{argument_before, arguments_in, row_in, tree_of};
 ghost use Rattle.vx_lower.specs.Holds.{jump, unary_op};
 ghost use Rattle.vx_lower.specs.Adds.{Compared, Last};
 ghost use Rattle.vx_lower.specs.Builds.{Ready, closed, filled, reserved};
-ghost use Rattle.vx_lower.specs.Emits.{Aimed, Asked, Emits, EmitsRow, EmitsTest, Lasts, Truth};
-ghost use Rattle.vx_lower.specs.Fits.{EmitsWell, RowsWell, TestsWell};
+ghost use Rattle.vx_lower.specs.Emits.{Aimed, Asked, Emits, EmitsBehind, EmitsRow, EmitsTest, Lasts, Truth};
+ghost use Rattle.vx_lower.specs.Fits.{BehindWell, EmitsWell, RowsWell, TestsWell};
 ghost use Rattle.vx_flow.specs.declared.graph.Exit.TheVariants.{Goto};
 ghost use Rattle.vx_flow.specs.declared.graph.Operand.{Operand as AnOperand};
 ghost use Rattle.vx_flow.specs.declared.graph.Operand.TheVariants.{Number};
 ghost use Rattle.vx_ast.specs.Tree as tree;
-ghost use Rattle.vx_ast.specs.Tree.{One, ReadInt, Tree};
+ghost use Rattle.vx_ast.specs.Tree.{NoMore, One, ReadInt, Tree};
 ghost use Rattle.vx_lower.specs.declared.builder.Builder.{Builder as Building};
 
 use crate::builder::Builder;
-use crate::pieces::{check, combine, comparison, compute, deliver, input, load, more, target};
+use crate::pieces::{
+    check, combine, comparison, compute, deliver, input, load, more, stand, target,
+};
 use crate::sizes::Sizes;
 use std::alloc::Global;
-use vx_ast::tree::{BinaryOperator, Expression, UnaryOperator};
+use vx_ast::tree::{Argument, BinaryOperator, Expression, UnaryOperator};
 use vx_base::arithmetic::{Code, Compare};
 use vx_base::listed::Listed;
 use vx_base::outcome::{NoMemory, Trap};
@@ -127,7 +129,7 @@ fn read(
     dest: Option<Value>,
 ) -> Result<Operand, NoMemory>
     ensures code { IfOk result (λ o. Ready b.old → Emits words.now ReadInt dest o b.old b.new) }
-    ensures fits { IfOk result (λ o. EmitsWell ReadInt dest o b.old b.new) }
+    ensures fits { IfOk result (λ o. EmitsWell words.now ReadInt dest o b.old b.new) }
 {
     let v = b.fresh(Bank::General)?;
     b.put(alloc, Op::More { to: v })?;
@@ -157,7 +159,7 @@ pub fn emit_value(
     dest: Option<Value>,
 ) -> Result<Operand, NoMemory>
     ensures code { IfOk result (λ o. Ready b.old → Emits words.now (tree_of e.now) dest o b.old b.new) }
-    ensures fits { IfOk result (λ o. EmitsWell (tree_of e.now) dest o b.old b.new) }
+    ensures fits { IfOk result (λ o. EmitsWell words.now (tree_of e.now) dest o b.old b.new) }
 {
     match e {
         Expression::Number(n) => deliver(b, alloc, Operand::Number(*n), dest),
@@ -213,7 +215,7 @@ fn emit_element(
     dest: Option<Value>,
 ) -> Result<Operand, NoMemory>
     ensures code { IfOk result (λ o. Ready b.old → Emits words.now (tree.Element array (tree_of x.now)) dest o b.old b.new) }
-    ensures fits { IfOk result (λ o. EmitsWell (tree.Element array (tree_of x.now)) dest o b.old b.new) }
+    ensures fits { IfOk result (λ o. EmitsWell words.now (tree.Element array (tree_of x.now)) dest o b.old b.new) }
 {
     let index = emit_value(b, alloc, words, x, None)?;
     let place = check(b, alloc, words, array, index)?;
@@ -227,14 +229,14 @@ fn emit_call(
     b: &mut Builder,
     alloc: Global,
     words: &Sizes,
-    all: &[Expression],
+    all: &[Argument],
     function: u32,
     dest: Option<Value>,
 ) -> Result<Operand, NoMemory>
-    ensures code { IfOk result (λ o. Ready b.old → Emits words.now (tree.Apply function (row_in all.now)) dest o b.old b.new) }
-    ensures fits { IfOk result (λ o. EmitsWell (tree.Apply function (row_in all.now)) dest o b.old b.new) }
+    ensures code { IfOk result (λ o. Ready b.old → Emits words.now (tree.Apply function (arguments_in all.now)) dest o b.old b.new) }
+    ensures fits { IfOk result (λ o. EmitsWell words.now (tree.Apply function (arguments_in all.now)) dest o b.old b.new) }
 {
-    let arguments = emit_row(b, alloc, words, all)?;
+    let arguments = emit_arguments(b, alloc, words, all)?;
     let t = target(b, dest)?;
     let next = b.reserve()?;
     b.close(
@@ -261,7 +263,7 @@ fn emit_unary(
     dest: Option<Value>,
 ) -> Result<Operand, NoMemory>
     ensures code { IfOk result (λ o. Ready b.old → Emits words.now (tree.Unary operator (tree_of x.now)) dest o b.old b.new) }
-    ensures fits { IfOk result (λ o. EmitsWell (tree.Unary operator (tree_of x.now)) dest o b.old b.new) }
+    ensures fits { IfOk result (λ o. EmitsWell words.now (tree.Unary operator (tree_of x.now)) dest o b.old b.new) }
 {
     let o = emit_value(b, alloc, words, x, None)?;
     let t = unary(b, alloc, operator, o, dest)?;
@@ -280,7 +282,7 @@ fn binary_behind(
     dest: Option<Value>,
 ) -> Result<Operand, NoMemory>
     ensures code { IfOk result (λ o. (x : Tree One) (start : Building) → (Ready start → Emits words.now x None left start b.old) → Ready start → Emits words.now (tree.Binary operator x (tree_of y.now)) dest o start b.new) }
-    ensures fits { IfOk result (λ o. (x : Tree One) (start : Building) → EmitsWell x None left start b.old → EmitsWell (tree.Binary operator x (tree_of y.now)) dest o start b.new) }
+    ensures fits { IfOk result (λ o. (x : Tree One) (start : Building) → EmitsWell words.now x None left start b.old → EmitsWell words.now (tree.Binary operator x (tree_of y.now)) dest o start b.new) }
 {
     let right = emit_value(b, alloc, words, y, None)?;
     let t = combine(b, alloc, operator, left, right, dest)?;
@@ -298,7 +300,7 @@ fn choice_behind(
     other: BlockId,
 ) -> Result<Operand, NoMemory>
     ensures code { IfOk result (λ o. (dest : Option ℕ) (c x : Tree One) (ox : AnOperand) (start tested aimed : Building) → (Ready start → EmitsTest words.now c other start tested) → Aimed dest t tested aimed → (Ready aimed → Emits words.now x (Some t) ox aimed b.old) → Ready start → Emits words.now (tree.Choice c x (tree_of y.now)) dest o start b.new) }
-    ensures fits { IfOk result (λ o. (dest : Option ℕ) (c x : Tree One) (ox : AnOperand) (start tested aimed : Building) → TestsWell c other start tested → Aimed dest t tested aimed → EmitsWell x (Some t) ox aimed b.old → EmitsWell (tree.Choice c x (tree_of y.now)) dest o start b.new) }
+    ensures fits { IfOk result (λ o. (dest : Option ℕ) (c x : Tree One) (ox : AnOperand) (start tested aimed : Building) → TestsWell words.now c other start tested → Aimed dest t tested aimed → EmitsWell words.now x (Some t) ox aimed b.old → EmitsWell words.now (tree.Choice c x (tree_of y.now)) dest o start b.new) }
 {
     let j = join(b, alloc, other)?;
     let second = emit_value(b, alloc, words, y, Some(t))?;
@@ -318,7 +320,7 @@ fn both_behind(
     dest: Option<Value>,
 ) -> Result<Operand, NoMemory>
     ensures code { IfOk result (λ o. (x : Tree One) (start : Building) → (Ready start → EmitsTest words.now x other start b.old) → Ready start → Emits words.now (tree.Both x (tree_of y.now)) dest o start b.new) }
-    ensures fits { IfOk result (λ o. (x : Tree One) (start : Building) → TestsWell x other start b.old → EmitsWell (tree.Both x (tree_of y.now)) dest o start b.new) }
+    ensures fits { IfOk result (λ o. (x : Tree One) (start : Building) → TestsWell words.now x other start b.old → EmitsWell words.now (tree.Both x (tree_of y.now)) dest o start b.new) }
 {
     let t = target(b, dest)?;
     let right = emit_value(b, alloc, words, y, None)?;
@@ -357,7 +359,7 @@ fn either_behind(
     dest: Option<Value>,
 ) -> Result<Operand, NoMemory>
     ensures code { IfOk result (λ o. (x : Tree One) (start : Building) → (Ready start → EmitsTest words.now x other start b.old) → Ready start → Emits words.now (tree.Either x (tree_of y.now)) dest o start b.new) }
-    ensures fits { IfOk result (λ o. (x : Tree One) (start : Building) → TestsWell x other start b.old → EmitsWell (tree.Either x (tree_of y.now)) dest o start b.new) }
+    ensures fits { IfOk result (λ o. (x : Tree One) (start : Building) → TestsWell words.now x other start b.old → EmitsWell words.now (tree.Either x (tree_of y.now)) dest o start b.new) }
 {
     let t = target(b, dest)?;
     b.put(
@@ -394,7 +396,7 @@ pub fn emit_test(
     e: &Expression,
 ) -> Result<BlockId, NoMemory>
     ensures code { IfOk result (λ n. Ready b.old → EmitsTest words.now (tree_of e.now) n b.old b.new) }
-    ensures fits { IfOk result (λ n. TestsWell (tree_of e.now) n b.old b.new) }
+    ensures fits { IfOk result (λ n. TestsWell words.now (tree_of e.now) n b.old b.new) }
 {
     match e {
         Expression::Unary(operator, x) => match *operator {
@@ -437,14 +439,13 @@ fn test_value(
     e: &Expression,
 ) -> Result<BlockId, NoMemory>
     ensures code { IfOk result (λ n. Ready b.old → EmitsTest words.now (tree_of e.now) n b.old b.new) }
-    ensures fits { IfOk result (λ n. TestsWell (tree_of e.now) n b.old b.new) }
+    ensures fits { IfOk result (λ n. TestsWell words.now (tree_of e.now) n b.old b.new) }
 {
     let o = emit_value(b, alloc, words, e, None)?;
     truth(b, alloc, o)
 }
 
-/// The code of a row of arguments, and where their values are.
-#[cycle(values)]
+/// The code of a row of numbers, and where their values are.
 pub fn emit_row(
     b: &mut Builder,
     alloc: Global,
@@ -452,7 +453,7 @@ pub fn emit_row(
     all: &[Expression],
 ) -> Result<Listed<Operand>, NoMemory>
     ensures code { IfOk result (λ os. Ready b.old → EmitsRow words.now (row_in all.now) os b.old b.new) }
-    ensures fits { IfOk result (λ os. RowsWell (row_in all.now) os b.old b.new) }
+    ensures fits { IfOk result (λ os. RowsWell words.now (row_in all.now) os b.old b.new) }
 {
     let mut arguments = Listed::new(alloc);
     for e in all {
@@ -460,4 +461,50 @@ pub fn emit_row(
         arguments.push(value)?;
     }
     Ok(arguments)
+}
+
+/// The code of an argument of a call, and what is passed for it behind what is passed for those before it.
+#[cycle(values)]
+fn emit_argument(
+    b: &mut Builder,
+    alloc: Global,
+    words: &Sizes,
+    argument: &Argument,
+    passed: &mut Listed<Operand>,
+) -> Result<(), NoMemory>
+    ensures code { OnOk result (Ready b.old → EmitsBehind words.now (argument_before argument.now NoMore) passed.old passed.new b.old b.new) }
+    ensures fits { OnOk result (BehindWell words.now (argument_before argument.now NoMore) passed.old passed.new b.old b.new) }
+{
+    match argument {
+        Argument::Number(e) => {
+            let value = emit_value(b, alloc, words, e, None)?;
+            passed.push(value)?;
+            Ok(())
+        }
+        Argument::Array(array) => {
+            let base = stand(b, alloc, words, *array)?;
+            passed.push(Operand::Held(base))?;
+            passed.push(words.of(*array))?;
+            Ok(())
+        }
+    }
+}
+
+/// The code of the arguments of a call, and what is passed: a number for a number, and for an array where it stands and how
+/// many words it has.
+#[cycle(values)]
+pub fn emit_arguments(
+    b: &mut Builder,
+    alloc: Global,
+    words: &Sizes,
+    all: &[Argument],
+) -> Result<Listed<Operand>, NoMemory>
+    ensures code { IfOk result (λ os. Ready b.old → EmitsRow words.now (arguments_in all.now) os b.old b.new) }
+    ensures fits { IfOk result (λ os. RowsWell words.now (arguments_in all.now) os b.old b.new) }
+{
+    let mut passed = Listed::new(alloc);
+    for argument in all {
+        emit_argument(b, alloc, words, argument, &mut passed)?;
+    }
+    Ok(passed)
 }

@@ -8,6 +8,7 @@ pub mod laws;
 mod lowering;
 pub mod pieces;
 pub mod prints;
+pub mod seen;
 pub mod sizes;
 pub mod slots;
 pub mod statements;

@@ -4,13 +4,14 @@ ghost use Rattle.std.specs.Prelude.{◌≡◌, true, false, Some, IfOk};
 ghost use Rattle.vx_ast.specs.Meaning.{divides};
 ghost use Rattle.vx_ast.specs.declared.tree.BinaryOperator.TheVariants.{Multiply};
 ghost use Rattle.vx_lower.specs.Holds.{operation_of, comparison_of};
-ghost use Rattle.vx_lower.specs.Adds.{Delivered, Last};
+ghost use Rattle.vx_lower.specs.Adds.{AddsBase, Delivered, Last};
 ghost use Rattle.vx_lower.specs.Builds.{Ready};
-ghost use Rattle.vx_lower.specs.Emits.{Aimed, Lasts, Delivers, Checked, Combined};
-ghost use Rattle.vx_lower.specs.Fits.{ChecksWell, CombinesWell};
+ghost use Rattle.vx_lower.specs.Emits.{Aimed, Lasts, Delivers, Checked, Combined, MakesBase, Stands};
+ghost use Rattle.vx_lower.specs.Fits.{ChecksWell, CombinesWell, StandsWell};
 ghost use Rattle.vx_flow.specs.declared.graph.Op.TheVariants.{Compute, Load, More, Input};
 
 use crate::builder::Builder;
+use crate::seen::Seen;
 use crate::sizes::Sizes;
 use std::alloc::Global;
 use vx_ast::tree::BinaryOperator;
@@ -133,18 +134,12 @@ pub fn check(
     index: Operand,
 ) -> Result<Value, NoMemory>
     ensures code { IfOk result (λ t. Ready b.old → Checked words.now array index t b.old b.new) }
-    ensures fits { IfOk result (λ t. ChecksWell array index t b.old b.new) }
+    ensures fits { IfOk result (λ t. ChecksWell words.now array index t b.old b.new) }
 {
     let size = words.of(array);
     let t = b.fresh(Bank::General)?;
-    b.put(
-        alloc,
-        Op::Place {
-            to: t,
-            array,
-            index,
-        },
-    )?;
+    let op = words.place(t, array, index);
+    b.put(alloc, op)?;
     let c = b.fresh(Bank::Branch)?;
     b.guard(
         alloc,
@@ -158,6 +153,39 @@ pub fn check(
         Trap::Index,
     )?;
     Ok(t)
+}
+
+/// A base is made of an array, in a value of its own.
+fn made_base(
+    b: &mut Builder,
+    alloc: Global,
+    array: ArrayId,
+    from: Operand,
+) -> Result<Value, NoMemory>
+    ensures code { IfOk result (λ v. Ready b.old → MakesBase array from v b.old b.new) }
+    ensures steps { IfOk result (λ v. AddsBase array from v b.old b.new) }
+{
+    let to = b.fresh(Bank::General)?;
+    b.put(alloc, Op::Base { to, array, from })?;
+    Ok(to)
+}
+
+/// The value that holds where an array stands which is handed over: its base where it was handed over itself, else one that
+/// is made of it.
+pub fn stand(
+    b: &mut Builder,
+    alloc: Global,
+    words: &Sizes,
+    array: ArrayId,
+) -> Result<Value, NoMemory>
+    ensures code { IfOk result (λ v. Ready b.old → Stands words.now array v b.old b.new) }
+    ensures fits { IfOk result (λ v. StandsWell words.now array v b.old b.new) }
+{
+    match words.seen(array) {
+        Seen::GlobalArray(_) => made_base(b, alloc, array, Operand::Number(0)),
+        Seen::OwnArray(_) => made_base(b, alloc, array, Operand::Stack),
+        Seen::Handed { base, size } => Ok(base),
+    }
 }
 
 /// The operation of an operator; a product has none.

@@ -10,6 +10,7 @@ ghost use Rattle.vx_flow.specs.declared.graph.Exit.TheVariants.{Goto};
 ghost use Rattle.vx_lower.specs.Adds.{Last};
 ghost use Rattle.vx_lower.specs.Builds.{Ready, closed, reserved};
 ghost use Rattle.vx_lower.specs.Emits.{Lasts};
+ghost use Rattle.vx_lower.specs.Seen.{Sees};
 ghost use Rattle.vx_lower.specs.StatementFits.{LoopTestWell, PlainWell, StatementWell, WordWell};
 ghost use Rattle.vx_lower.specs.Makes.{ClearsWord, Makes, MakesPlain, MakesTest, way_exit};
 
@@ -66,7 +67,7 @@ fn clear(b: &mut Builder, alloc: Global, dest: Option<Value>) -> Result<Value, N
 /// The word of an array at a place is set to 0, and the place is the next one then.
 fn clear_word(b: &mut Builder, alloc: Global, array: ArrayId, i: Value) -> Result<(), NoMemory>
     ensures code { OnOk result (Ready b.old → ClearsWord array i b.old b.new) }
-    ensures fits { OnOk result (WordWell array i b.old b.new) }
+    ensures fits { OnOk result ((words : Sees) → WordWell words array i b.old b.new) }
 {
     let t = b.fresh(Bank::General)?;
     b.put(
@@ -98,7 +99,7 @@ fn clear_array(
     array: ArrayId,
 ) -> Result<(), NoMemory>
     ensures code { OnOk result (Ready b.old → MakesPlain words.now (ClearArray array) b.old b.new) }
-    ensures fits { OnOk result (PlainWell (ClearArray array) b.old b.new) }
+    ensures fits { OnOk result (PlainWell words.now (ClearArray array) b.old b.new) }
 {
     let size = words.of(array);
     let i = clear(b, alloc, None)?;
@@ -122,7 +123,7 @@ fn clear_array(
 /// The code of an item of a declaration.
 fn emit_item(b: &mut Builder, alloc: Global, words: &Sizes, item: &Item) -> Result<(), NoMemory>
     ensures code { OnOk result (Ready b.old → MakesPlain words.now (item_of item.now) b.old b.new) }
-    ensures fits { OnOk result (PlainWell (item_of item.now) b.old b.new) }
+    ensures fits { OnOk result (PlainWell words.now (item_of item.now) b.old b.new) }
 {
     match item {
         Item::Scalar(x) => {
@@ -140,7 +141,7 @@ fn emit_item(b: &mut Builder, alloc: Global, words: &Sizes, item: &Item) -> Resu
 /// The code of the items of a declaration, one after the other.
 fn emit_items(b: &mut Builder, alloc: Global, words: &Sizes, items: &[Item]) -> Result<(), NoMemory>
     ensures code { OnOk result (Ready b.old → MakesPlain words.now (items_of items.now) b.old b.new) }
-    ensures fits { OnOk result (PlainWell (items_of items.now) b.old b.new) }
+    ensures fits { OnOk result (PlainWell words.now (items_of items.now) b.old b.new) }
 {
     for item in items {
         emit_item(b, alloc, words, item)?;
@@ -151,7 +152,7 @@ fn emit_items(b: &mut Builder, alloc: Global, words: &Sizes, items: &[Item]) -> 
 /// The code of the first part of the head of a `for`.
 fn emit_first(b: &mut Builder, alloc: Global, words: &Sizes, first: &First) -> Result<(), NoMemory>
     ensures code { OnOk result (Ready b.old → MakesPlain words.now (first_of first.now) b.old b.new) }
-    ensures fits { OnOk result (PlainWell (first_of first.now) b.old b.new) }
+    ensures fits { OnOk result (PlainWell words.now (first_of first.now) b.old b.new) }
 {
     match first {
         First::Nothing => Ok(()),
@@ -168,7 +169,7 @@ fn emit_step(
     step: &Option<Simple>,
 ) -> Result<(), NoMemory>
     ensures code { OnOk result (Ready b.old → MakesPlain words.now (step_of step.now) b.old b.new) }
-    ensures fits { OnOk result (PlainWell (step_of step.now) b.old b.new) }
+    ensures fits { OnOk result (PlainWell words.now (step_of step.now) b.old b.new) }
 {
     match step {
         None => Ok(()),
@@ -185,7 +186,7 @@ fn emit_asked(
     test: &Option<Expression>,
 ) -> Result<BlockId, NoMemory>
     ensures code { IfOk result (λ n. Ready b.old → MakesTest words.now (option_map tree_of test.now) n b.old b.new) }
-    ensures fits { IfOk result (λ n. LoopTestWell (option_map tree_of test.now) n b.old b.new) }
+    ensures fits { IfOk result (λ n. LoopTestWell words.now (option_map tree_of test.now) n b.old b.new) }
 {
     match test {
         None => b.reserve(),
@@ -203,7 +204,7 @@ fn emit_print(
     all: &[Expression],
 ) -> Result<(), NoMemory>
     ensures code { OnOk result ((leaves again : Option ℕ) → Ready b.old → Makes words.now (Print format.now (row_in all.now)) leaves again b.old b.new texts.old texts.new) }
-    ensures fits { OnOk result ((leaves again : Option ℕ) → StatementWell (Print format.now (row_in all.now)) leaves again b.old b.new texts.old texts.new) }
+    ensures fits { OnOk result ((leaves again : Option ℕ) → StatementWell words.now (Print format.now (row_in all.now)) leaves again b.old b.new texts.old texts.new) }
 {
     let arguments = emit_row(b, alloc, words, all)?;
     show(b, alloc, texts, format, arguments.as_slice())
@@ -222,7 +223,7 @@ fn emit_if(
     again: Option<BlockId>,
 ) -> Result<(), NoMemory>
     ensures code { OnOk result (Ready b.old → Makes words.now (If (tree_of e.now) (code_of one.now)) leaves again b.old b.new texts.old texts.new) }
-    ensures fits { OnOk result (StatementWell (If (tree_of e.now) (code_of one.now)) leaves again b.old b.new texts.old texts.new) }
+    ensures fits { OnOk result (StatementWell words.now (If (tree_of e.now) (code_of one.now)) leaves again b.old b.new texts.old texts.new) }
 {
     let skip = emit_test(b, alloc, words, e)?;
     emit_statement(b, alloc, words, texts, one, leaves, again)?;
@@ -242,7 +243,7 @@ fn emit_while(
     e: &Expression,
 ) -> Result<(), NoMemory>
     ensures code { OnOk result ((leaves again : Option ℕ) → Ready b.old → Makes words.now (While (tree_of e.now) (code_of body.now)) leaves again b.old b.new texts.old texts.new) }
-    ensures fits { OnOk result ((leaves again : Option ℕ) → StatementWell (While (tree_of e.now) (code_of body.now)) leaves again b.old b.new texts.old texts.new) }
+    ensures fits { OnOk result ((leaves again : Option ℕ) → StatementWell words.now (While (tree_of e.now) (code_of body.now)) leaves again b.old b.new texts.old texts.new) }
 {
     let head = enter(b, alloc)?;
     let end = emit_test(b, alloc, words, e)?;
@@ -264,7 +265,7 @@ fn emit_do_while(
     e: &Expression,
 ) -> Result<(), NoMemory>
     ensures code { OnOk result ((leaves again : Option ℕ) → Ready b.old → Makes words.now (DoWhile (code_of body.now) (tree_of e.now)) leaves again b.old b.new texts.old texts.new) }
-    ensures fits { OnOk result ((leaves again : Option ℕ) → StatementWell (DoWhile (code_of body.now) (tree_of e.now)) leaves again b.old b.new texts.old texts.new) }
+    ensures fits { OnOk result ((leaves again : Option ℕ) → StatementWell words.now (DoWhile (code_of body.now) (tree_of e.now)) leaves again b.old b.new texts.old texts.new) }
 {
     let head = enter(b, alloc)?;
     let after = b.reserve()?;
@@ -290,7 +291,7 @@ fn emit_for(
     step: &Option<Simple>,
 ) -> Result<(), NoMemory>
     ensures code { OnOk result ((leaves again : Option ℕ) → Ready b.old → Makes words.now (For (first_of first.now) (option_map tree_of test.now) (step_of step.now) (code_of body.now)) leaves again b.old b.new texts.old texts.new) }
-    ensures fits { OnOk result ((leaves again : Option ℕ) → StatementWell (For (first_of first.now) (option_map tree_of test.now) (step_of step.now) (code_of body.now)) leaves again b.old b.new texts.old texts.new) }
+    ensures fits { OnOk result ((leaves again : Option ℕ) → StatementWell words.now (For (first_of first.now) (option_map tree_of test.now) (step_of step.now) (code_of body.now)) leaves again b.old b.new texts.old texts.new) }
 {
     emit_first(b, alloc, words, first)?;
     let head = enter(b, alloc)?;
@@ -313,7 +314,7 @@ fn emit_return(
     e: &Expression,
 ) -> Result<(), NoMemory>
     ensures code { OnOk result ((leaves again : Option ℕ) (texts : List (List ℕ)) → Ready b.old → Makes words.now (ReturnValue (tree_of e.now)) leaves again b.old b.new texts texts) }
-    ensures fits { OnOk result ((leaves again : Option ℕ) (texts : List (List ℕ)) → StatementWell (ReturnValue (tree_of e.now)) leaves again b.old b.new texts texts) }
+    ensures fits { OnOk result ((leaves again : Option ℕ) (texts : List (List ℕ)) → StatementWell words.now (ReturnValue (tree_of e.now)) leaves again b.old b.new texts texts) }
 {
     let value = emit_value(b, alloc, words, e, None)?;
     end_with(b, alloc, Exit::Return(value))
@@ -331,7 +332,7 @@ pub fn emit_statement(
     again: Option<BlockId>,
 ) -> Result<(), NoMemory>
     ensures code { OnOk result (Ready b.old → Makes words.now (code_of s.now) leaves again b.old b.new texts.old texts.new) }
-    ensures fits { OnOk result (StatementWell (code_of s.now) leaves again b.old b.new texts.old texts.new) }
+    ensures fits { OnOk result (StatementWell words.now (code_of s.now) leaves again b.old b.new texts.old texts.new) }
 {
     match s {
         Statement::Empty => Ok(()),
@@ -379,7 +380,7 @@ pub fn emit_all(
     again: Option<BlockId>,
 ) -> Result<(), NoMemory>
     ensures code { OnOk result (Ready b.old → Makes words.now (all_in all.now) leaves again b.old b.new texts.old texts.new) }
-    ensures fits { OnOk result (StatementWell (all_in all.now) leaves again b.old b.new texts.old texts.new) }
+    ensures fits { OnOk result (StatementWell words.now (all_in all.now) leaves again b.old b.new texts.old texts.new) }
 {
     for s in all {
         emit_statement(b, alloc, words, texts, s, leaves, again)?;

@@ -7,10 +7,9 @@ use Rattle.vx_base.specs.declared.outcome.Trap.TheVariants.{Depth}
 use Rattle.vx_base.proofs.Runs.{runs_from, safe_after, safe_end, reach_one}
 use Rattle.vx_flow.specs.declared.graph.Block.{Block}
 use Rattle.vx_flow.specs.declared.graph.Graph.{Graph}
-use Rattle.vx_flow.specs.declared.graph.Array.{Array}
 use Rattle.vx_flow.specs.declared.graph.Flow.{Flow}
 use Rattle.vx_flow.specs.Effects.{Content, State, Setting, is_one}
-use Rattle.vx_flow.specs.Meaning.{Hop, Arrives, Calls, Leaves, Stops, Wrong, by_test, calls, leaves, hop_of, Body, Program, Frame, Active, deepest, undefined, at_entry, entered, enters, with_result, returned, waits, after_hop, body_hop, hop, next, body_of, program_of, setting_with, globals_at_start, entered_or, start, graph_run}
+use Rattle.vx_flow.specs.Meaning.{Hop, Arrives, Calls, Leaves, Stops, Wrong, by_test, calls, leaves, hop_of, Body, Program, Frame, Active, deepest, undefined, at_entry, entered, spots_held, spots_for, enters_with, enters, with_result, returned, waits, after_hop, body_hop, hop, next, bases_of, own_of, body_of, program_of, setting_with, globals_at_start, entered_or, start, graph_run}
 use Rattle.vx_flow.specs.Agree.{SameWorld}
 use Rattle.vx_flow.proofs.EffectsAlike.{Refined}
 use Rattle.vx_shape.specs.Flows.{with_graphs, Each}
@@ -127,24 +126,35 @@ module _ (R : Graph → Graph → Type 0) (agree : (g h : Graph) → R g h → (
     cond_joined false c x y x' y' e h k = subst (λ z. StepJoined y (cond z x' y')) (sym e) k
 
     entered_world : (ns : List ℤ) (s t : State) (x : Graph) → SameWorld s t → SameWorld (entered (body_of (length flow.globals) x) ns s) (entered (body_of (length flow.globals) x) ns t)
-    entered_world ns s t x w = record { arrays = ap (λ l. l ++ map undefined (map (λ (k : Array). k.words) (drop (length flow.globals) x.arrays))) w.arrays; input = w.input; out = w.out }
+    entered_world ns s t x w = record { arrays = ap (λ l. l ++ map undefined (own_of (length flow.globals) x)) w.arrays; input = w.input; out = w.out }
 
-    graph_joined : (g : ℕ) (ns : List ℤ) (s t : State) (fs gs : List Frame) (x y : Graph) (blocks : List Block) → y ≡ record x { blocks = blocks } → SameWorld s t → FramesTied fs gs → agree_in g (at_entry x.parameters ns) (at_entry x.parameters ns) →
-        StepJoined (enters g (as_body (Some x)) ns s fs) (enters g (as_body (Some y)) ns t gs)
-    graph_joined g ns s t fs gs x y blocks e w k a =
+    graph_joined : (g : ℕ) (ns : List ℤ) (s t : State) (fs gs : List Frame) (x y : Graph) (blocks : List Block) → y ≡ record x { blocks = blocks } → SameWorld s t → FramesTied fs gs → agree_in g (at_entry x.parameters ns) (at_entry x.parameters ns) → (spots : Option (List (Option ℕ))) →
+        StepJoined (enters_with g (as_body (Some x)) ns s fs spots) (enters_with g (as_body (Some y)) ns t gs spots)
+    graph_joined g ns s t fs gs x y blocks e w k a None = ap Outcome.Wrong (sym w.out)
+    graph_joined g ns s t fs gs x y blocks e w k a (Some passed) =
         let body : Body = body_of (length flow.globals) x in
-        let made : Joined (record { function = g; block = 0; passed = []; base = length s.arrays; state = entered body ns s; waiting = fs }) (record { function = g; block = 0; passed = []; base = length t.arrays; state = entered body ns t; waiting = gs }) =
-        (entered body ns t, gs, ap (λ n. record { function = g; block = 0; passed = []; base = n; state = entered body ns t; waiting = gs }) (ap length w.arrays), entered_world ns s t x w, a, k) in
-        subst (λ z. StepJoined (enters g (as_body (Some x)) ns s fs) (enters g (as_body (Some z)) ns t gs)) (sym e) made
+        let made : Joined (record { function = g; block = 0; passed = passed; base = length s.arrays; state = entered body ns s; waiting = fs }) (record { function = g; block = 0; passed = passed; base = length t.arrays; state = entered body ns t; waiting = gs }) =
+        (entered body ns t, gs, ap (λ n. record { function = g; block = 0; passed = passed; base = n; state = entered body ns t; waiting = gs }) (ap length w.arrays), entered_world ns s t x w, a, k) in
+        subst (λ z. StepJoined (enters_with g (as_body (Some x)) ns s fs (Some passed)) (enters_with g (as_body (Some z)) ns t gs (Some passed))) (sym e) made
 
-    body_joined : (g : ℕ) (ns : List ℤ) (s t : State) (fs gs : List Frame) (o q : Option Graph) (p : At R o q) → SameWorld s t → FramesTied fs gs → ((x y : ℕ → Content) → agree_by o q p x y → agree_in g x y) → StepJoined (enters g (as_body o) ns s fs) (enters g (as_body q) ns t gs)
-    body_joined g ns s t fs gs None None p w k u = ap Outcome.Wrong (sym w.out)
-    body_joined g ns s t fs gs None (Some h) p w k u = absurd p
-    body_joined g ns s t fs gs (Some x) None p w k u = absurd p
-    body_joined g ns s t fs gs (Some x) (Some y) p w k u = let it = alike x y p in graph_joined g ns s t fs gs x y it.blocks it.is w k (u (at_entry x.parameters ns) (at_entry x.parameters ns) (it.entry ns))
+    spots_same : (ns : List ℤ) (s t : State) (o q : Option Graph) → At R o q → SameWorld s t → spots_for (as_body q) ns t ≡ spots_for (as_body o) ns s
+    spots_same ns s t None None p w = refl
+    spots_same ns s t None (Some h) p w = absurd p
+    spots_same ns s t (Some x) None p w = absurd p
+    spots_same ns s t (Some x) (Some y) p w =
+        ap (λ z. spots_for (as_body (Some z)) ns t) (alike x y p).is ∙ ap (λ n. spots_held n (at_entry x.parameters ns) (bases_of (length flow.globals) x)) (ap length w.arrays)
+
+    body_joined : (g : ℕ) (ns : List ℤ) (s t : State) (fs gs : List Frame) (o q : Option Graph) (p : At R o q) → SameWorld s t → FramesTied fs gs → ((x y : ℕ → Content) → agree_by o q p x y → agree_in g x y) → (spots : Option (List (Option ℕ))) →
+        StepJoined (enters_with g (as_body o) ns s fs spots) (enters_with g (as_body q) ns t gs spots)
+    body_joined g ns s t fs gs None None p w k u spots = ap Outcome.Wrong (sym w.out)
+    body_joined g ns s t fs gs None (Some h) p w k u spots = absurd p
+    body_joined g ns s t fs gs (Some x) None p w k u spots = absurd p
+    body_joined g ns s t fs gs (Some x) (Some y) p w k u spots = let it = alike x y p in graph_joined g ns s t fs gs x y it.blocks it.is w k (u (at_entry x.parameters ns) (at_entry x.parameters ns) (it.entry ns)) spots
 
     enters_joined : (g : ℕ) (ns : List ℤ) (s t : State) (fs gs : List Frame) → SameWorld s t → FramesTied fs gs → StepJoined (enters g (old.body g) ns s fs) (enters g (new.body g) ns t gs)
-    enters_joined g ns s t fs gs w k = body_joined g ns s t fs gs (slice_get flow.functions g) (slice_get graphs g) (each_at R flow.functions graphs each g) w k (λ x y a. a)
+    enters_joined g ns s t fs gs w k =
+        subst (λ spots. StepJoined (enters g (old.body g) ns s fs) (enters_with g (new.body g) ns t gs spots)) (sym (spots_same ns s t (slice_get flow.functions g) (slice_get graphs g) (each_at R flow.functions graphs each g) w))
+        (body_joined g ns s t fs gs (slice_get flow.functions g) (slice_get graphs g) (each_at R flow.functions graphs each g) w k (λ x y a. a) (spots_for (old.body g) ns s))
 
     returned_joined : (n : ℤ) (s t : State) (base : ℕ) (fs gs : List Frame) → SameWorld s t → FramesTied fs gs → StepJoined (returned n s base fs) (returned n t base gs)
     returned_joined n s t base [] [] w k = ap (λ out. Outcome.Ends n out) (sym w.out)
@@ -191,7 +201,7 @@ module _ (R : Graph → Graph → Type 0) (agree : (g h : Graph) → R g h → (
     abbrev at_main : Option Body → State → Active
     at_main o s = record { function = flow.main; block = 0; passed = []; base = length s.arrays; state = entered_or o s; waiting = [] }
 
-    start_joined : (s : State) (o q : Option Body) → (o ≡ None → ⊥) → StepJoined (enters flow.main o [] s []) (enters flow.main q [] s []) → Joined (at_main o s) (at_main q s)
+    start_joined : (s : State) (o q : Option Body) → (o ≡ None → ⊥) → StepJoined (enters_with flow.main o [] s [] (Some [])) (enters_with flow.main q [] s [] (Some [])) → Joined (at_main o s) (at_main q s)
     start_joined s None q some k = absurd (some refl)
     start_joined s (Some x) None some k = absurd k
     start_joined s (Some x) (Some y) some k = k
@@ -202,4 +212,5 @@ module _ (R : Graph → Graph → Type 0) (agree : (g h : Graph) → R g h → (
         let s : State = globals_at_start flow input in
         let w : SameWorld s s = record { arrays = refl; input = refl; out = refl } in
         let some : old.body flow.main ≡ None → ⊥ = λ e. never_wrong r safe (ap (body_hop old r) e) in
-        runs_same n r (start (with_graphs flow graphs) input) (start_joined s (old.body flow.main) (new.body flow.main) some (enters_joined flow.main [] s s [] [] w tt)) safe
+        runs_same n r (start (with_graphs flow graphs) input) (start_joined s (old.body flow.main) (new.body flow.main) some
+        (body_joined flow.main [] s s [] [] (slice_get flow.functions flow.main) (slice_get graphs flow.main) (each_at R flow.functions graphs each flow.main) w tt (λ x y a. a) (Some []))) safe

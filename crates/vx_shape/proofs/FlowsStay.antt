@@ -21,6 +21,7 @@ pub shape_kept : (p : Program) (function : Function) (blocks : List Block) (g : 
 shape_kept p function blocks g o s = record {
   parameters = o.parameters;
   arrays = o.arrays;
+  bases = o.bases;
   trap_empty = s.trap_empty;
   trap_alone = s.trap_alone;
   traps_last = s.traps_last;

@@ -4,3 +4,4 @@ pub mod ShapeTests
 pub mod FlowsStay
 pub mod FlowsAlike
 pub mod Noting
+pub mod Sizes

@@ -1,7 +1,7 @@
 use Rattle.std.proofs.Common.{ap, sym, ◌∙◌, ◌≡◌, false, inl, inr}
 use Rattle.std.proofs.lemmas.Result.{on_ok_weaker}
 use Rattle.vx_ast.specs.Tree.{Evaluate, Apply}
-use Rattle.vx_ast.specs.View.{tree_of, row_in}
+use Rattle.vx_ast.specs.View.{tree_of, arguments_in}
 use Rattle.vx_lower.specs.Does.{is_call}
 use Rattle.vx_lower.proofs.TreeViews.{view-Call}
 use Rattle.vx_lower.proofs.ActionMaking.{acted_as, acts_evaluate}
@@ -10,11 +10,11 @@ use Rattle.vx_lower.proofs.actions.evaluate.Goals as goal
 
 pub returns-in-Call-clause-code : goal.returns-in-Call-clause-code
 returns-in-Call-clause-code c =
-    on_ok_weaker c.emit_call.result (λ h. acted_as c.args.words.now c.args.b.now c.emit_call.new.b (Evaluate (Apply c.in-Call.function (row_in c.as_slice.result.now))) (Evaluate (tree_of c.args.e.now)) (ap (λ z. Evaluate (Apply c.in-Call.function (row_in z))) c.as_slice.ensures.value ∙ ap Evaluate (sym (view-Call c.in-Call.function c.in-Call.all)) ∙ ap (λ z. Evaluate (tree_of z)) (sym c.in-Call.is)) h) c.emit_call.ensures.code
+    on_ok_weaker c.emit_call.result (λ h. acted_as c.args.words.now c.args.b.now c.emit_call.new.b (Evaluate (Apply c.in-Call.function (arguments_in c.as_slice.result.now))) (Evaluate (tree_of c.args.e.now)) (ap (λ z. Evaluate (Apply c.in-Call.function (arguments_in z))) c.as_slice.ensures.value ∙ ap Evaluate (sym (view-Call c.in-Call.function c.in-Call.all)) ∙ ap (λ z. Evaluate (tree_of z)) (sym c.in-Call.is)) h) c.emit_call.ensures.code
 
 pub returns-in-Call-clause-fits : goal.returns-in-Call-clause-fits
 returns-in-Call-clause-fits c =
-    on_ok_weaker c.emit_call.result (λ h. acts_well_as c.args.b.now c.emit_call.new.b (Evaluate (Apply c.in-Call.function (row_in c.as_slice.result.now))) (Evaluate (tree_of c.args.e.now)) (ap (λ z. Evaluate (Apply c.in-Call.function (row_in z))) c.as_slice.ensures.value ∙ ap Evaluate (sym (view-Call c.in-Call.function c.in-Call.all)) ∙ ap (λ z. Evaluate (tree_of z)) (sym c.in-Call.is)) h) c.emit_call.ensures.fits
+    on_ok_weaker c.emit_call.result (λ h. acts_well_as c.args.b.now c.emit_call.new.b (Evaluate (Apply c.in-Call.function (arguments_in c.as_slice.result.now))) (Evaluate (tree_of c.args.e.now)) (ap (λ z. Evaluate (Apply c.in-Call.function (arguments_in z))) c.as_slice.ensures.value ∙ ap Evaluate (sym (view-Call c.in-Call.function c.in-Call.all)) ∙ ap (λ z. Evaluate (tree_of z)) (sym c.in-Call.is)) h) c.emit_call.ensures.fits
 
 pub returns-in_ok-emit_value-in-Number-clause-code : goal.returns-in_ok-emit_value-in-Number-clause-code
 returns-in_ok-emit_value-in-Number-clause-code c =

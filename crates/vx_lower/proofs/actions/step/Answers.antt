@@ -16,7 +16,7 @@ returns-in_ok-stepped-in-Scalar-clause-code c =
 pub returns-in_ok-stepped-in-Scalar-clause-fits : goal.returns-in_ok-stepped-in-Scalar-clause-fits
 returns-in_ok-stepped-in-Scalar-clause-fits c =
     acts_well_as c.args.b.now c.stepped.new.b (action_of (InLocal c.in-Scalar.x) (step_change c.args.up)) (action_of (place_of c.args.target.now) (step_change c.args.up)) (ap (λ z. action_of (place_of z) (step_change c.args.up)) (sym c.in-Scalar.is))
-    (change_local_well c.in-Scalar.x c.in_ok-stepped-in-Scalar.field-0 (step_change c.args.up) c.args.b.now c.stepped.new.b c.in_ok-stepped-in-Scalar.ensures.fits)
+    (change_local_well c.in-Scalar.x c.in_ok-stepped-in-Scalar.field-0 (step_change c.args.up) c.args.b.now c.stepped.new.b (c.in_ok-stepped-in-Scalar.ensures.fits c.args.words.now))
 
 pub returns-in_ok-new-in-Global-clause-code : goal.returns-in_ok-new-in-Global-clause-code
 returns-in_ok-new-in-Global-clause-code c =
@@ -26,7 +26,7 @@ returns-in_ok-new-in-Global-clause-code c =
 pub returns-in_ok-new-in-Global-clause-fits : goal.returns-in_ok-new-in-Global-clause-fits
 returns-in_ok-new-in-Global-clause-fits c =
     on_ok_weaker c.store.result (λ h. acts_well_as c.args.b.now c.store.new.b (action_of (InGlobal c.in-Global.array) (step_change c.args.up)) (action_of (place_of c.args.target.now) (step_change c.args.up)) (ap (λ z. action_of (place_of z) (step_change c.args.up)) (sym c.in-Global.is))
-    (change_global_well c.in-Global.array c.in_ok-old-in-Global.old c.in_ok-new-in-Global.new (step_change c.args.up) c.args.b.now c.load.new.b c.stepped-in-Global.new.b c.store.new.b c.in_ok-old-in-Global.ensures.steps (c.in_ok-new-in-Global.ensures.fits) h)) c.store.ensures.steps
+    (change_global_well c.in-Global.array c.in_ok-old-in-Global.old c.in_ok-new-in-Global.new (step_change c.args.up) c.args.b.now c.load.new.b c.stepped-in-Global.new.b c.store.new.b c.in_ok-old-in-Global.ensures.steps ((c.in_ok-new-in-Global.ensures.fits c.args.words.now)) h)) c.store.ensures.steps
 
 pub returns-in_ok-new-in-Element-clause-code : goal.returns-in_ok-new-in-Element-clause-code
 returns-in_ok-new-in-Element-clause-code c =
@@ -36,4 +36,4 @@ returns-in_ok-new-in-Element-clause-code c =
 pub returns-in_ok-new-in-Element-clause-fits : goal.returns-in_ok-new-in-Element-clause-fits
 returns-in_ok-new-in-Element-clause-fits c =
     on_ok_weaker c.store-in-Element.result (λ h. acts_well_as c.args.b.now c.store-in-Element.new.b (action_of (InElement c.in-Element.array (tree_of c.in-Element.i)) (step_change c.args.up)) (action_of (place_of c.args.target.now) (step_change c.args.up)) (ap (λ z. action_of (place_of z) (step_change c.args.up)) (sym c.in-Element.is))
-    (change_element_well c.in-Element.array c.in_ok-place-in-Element.place c.in_ok-old-in-Element.old c.in_ok-new-in-Element.new (tree_of c.in-Element.i) c.in_ok-index-in-Element.index (step_change c.args.up) c.args.b.now c.emit_value.new.b c.check.new.b c.load-in-Element.new.b c.stepped-in-Element.new.b c.store-in-Element.new.b c.in_ok-index-in-Element.ensures.fits c.in_ok-place-in-Element.ensures.fits c.in_ok-old-in-Element.ensures.steps (c.in_ok-new-in-Element.ensures.fits) h)) c.store-in-Element.ensures.steps
+    (change_element_well c.in-Element.array c.in_ok-place-in-Element.place c.in_ok-old-in-Element.old c.in_ok-new-in-Element.new (tree_of c.in-Element.i) c.in_ok-index-in-Element.index (step_change c.args.up) c.args.b.now c.emit_value.new.b c.check.new.b c.load-in-Element.new.b c.stepped-in-Element.new.b c.store-in-Element.new.b c.in_ok-index-in-Element.ensures.fits c.in_ok-place-in-Element.ensures.fits c.in_ok-old-in-Element.ensures.steps ((c.in_ok-new-in-Element.ensures.fits c.args.words.now)) h)) c.store-in-Element.ensures.steps

@@ -20,6 +20,6 @@ returns-clause-code c = elim c.if-up.branch [
 
 pub returns-clause-fits : goal.returns-clause-fits
 returns-clause-fits c = elim c.if-up.branch [
-  | then-up w ↦ IfOk-weaker c.compute.result _ _ (λ t last. subst (λ z. AltersWell (step_change z) c.args.old c.args.dest t c.args.b.now c.compute.new.b) (sym w.if-up.true) (up_well c.args.old c.args.dest t c.args.b.now c.compute.new.b (subst (λ z. Last (Compute z t c.args.old (Number (pos 1))) c.args.dest t c.args.b.now c.compute.new.b) w.code-is last))) c.compute.ensures.steps
-  | else-up w ↦ IfOk-weaker c.compute.result _ _ (λ t last. subst (λ z. AltersWell (step_change z) c.args.old c.args.dest t c.args.b.now c.compute.new.b) (sym w.if-up.false) (down_well c.args.old c.args.dest t c.args.b.now c.compute.new.b (subst (λ z. Last (Compute z t c.args.old (Number (pos 1))) c.args.dest t c.args.b.now c.compute.new.b) w.code-is last))) c.compute.ensures.steps
+  | then-up w ↦ IfOk-weaker c.compute.result _ _ (λ t last words. subst (λ z. AltersWell words (step_change z) c.args.old c.args.dest t c.args.b.now c.compute.new.b) (sym w.if-up.true) (up_well c.args.old c.args.dest t c.args.b.now c.compute.new.b (subst (λ z. Last (Compute z t c.args.old (Number (pos 1))) c.args.dest t c.args.b.now c.compute.new.b) w.code-is last))) c.compute.ensures.steps
+  | else-up w ↦ IfOk-weaker c.compute.result _ _ (λ t last words. subst (λ z. AltersWell words (step_change z) c.args.old c.args.dest t c.args.b.now c.compute.new.b) (sym w.if-up.false) (down_well c.args.old c.args.dest t c.args.b.now c.compute.new.b (subst (λ z. Last (Compute z t c.args.old (Number (pos 1))) c.args.dest t c.args.b.now c.compute.new.b) w.code-is last))) c.compute.ensures.steps
 ]

@@ -1,19 +1,19 @@
-use Rattle.std.proofs.Common.{refl, ap, sym, subst, ◌≡◌, [], take, ◌∙◌, rules, w32, FitsSigned}
+use Rattle.std.proofs.Common.{refl, ap, sym, subst, ◌≡◌, [], ◌∷◌, ◌++◌, append_assoc, take, ◌∙◌, rules, w32, FitsSigned}
 use Rattle.std.proofs.lemmas.Result.{IfOk-weaker}
 use Rattle.std.proofs.lemmas.Int.{to_z-of_z}
 use Rattle.vx_flow.specs.declared.graph.Operand.TheVariants.{Held, Number}
 use Rattle.vx_ast.specs.Tree.{NoMore, Literal, Local, Global, Element, Unary, Binary, Both, Either, Choice, Apply, ReadInt, MoreInput}
 use Rattle.vx_ast.specs.declared.tree.UnaryOperator.TheVariants.{Not}
-use Rattle.vx_ast.specs.View.{tree_of, row_in}
+use Rattle.vx_ast.specs.View.{tree_of, argument_before, arguments_in}
 use Rattle.vx_lower.specs.Holds.{literal, local}
 use Rattle.vx_lower.specs.Builds.{Ready}
 use Rattle.vx_lower.specs.Emits.{EmitsRow, EmitsFront, Delivers}
 use Rattle.vx_lower.proofs.Places.{take_next, take_whole}
 use Rattle.vx_lower.proofs.TreeViews.{view-Call}
-use Rattle.vx_lower.proofs.Emitting.{tests_as, tests_value, tests_compare, tests_not, tests_both, tests_either, emits_as, emits_operand, emits_global, emits_more, emits_element, emits_unary, emits_binary, emits_both, emits_either, emits_choice, emits_call, no_front, more_front, whole_row}
+use Rattle.vx_lower.proofs.Emitting.{tests_as, tests_value, tests_compare, tests_not, tests_both, tests_either, emits_as, emits_operand, emits_global, emits_more, emits_element, emits_unary, emits_binary, emits_both, emits_either, emits_choice, emits_call, no_front, number_front, array_front, more_arguments, whole_row}
 use Rattle.vx_lower.specs.Adds.{Delivered}
 use Rattle.vx_lower.specs.Fits.{RowsWell}
-use Rattle.vx_lower.proofs.FittingTrees.{well_as, operand_well, global_well, more_well, element_well, unary_well, binary_well, both_well, either_well, choice_well, call_well, tests_well_as, value_tested, compare_tested, not_tested, both_asked, either_asked, no_row, more_row}
+use Rattle.vx_lower.proofs.FittingTrees.{well_as, operand_well, global_well, more_well, element_well, unary_well, binary_well, both_well, either_well, choice_well, call_well, tests_well_as, value_tested, compare_tested, not_tested, both_asked, either_asked, no_row, number_row, array_row, behind_well, more_arguments_well}
 use Rattle.vx_lower.proofs.expressions.+values.Goals as goal
 
 pub emit_value-returns-in-Number-clause-code : goal.emit_value-returns-in-Number-clause-code
@@ -94,12 +94,12 @@ emit_element-returns-clause-code t c =
 
 pub emit_value-returns-in-Call-clause-code : goal.emit_value-returns-in-Call-clause-code
 emit_value-returns-in-Call-clause-code t c =
-    let h : Apply c.in-Call.function (row_in c.as_slice.result.now) ≡ tree_of c.args.e.now = ap (λ z. Apply c.in-Call.function (row_in z)) c.as_slice.ensures.value ∙ sym (view-Call c.in-Call.function c.in-Call.all) ∙ ap tree_of (sym c.in-Call.is) in
-    IfOk-weaker c.emit_call.result _ _ (λ o k. emits_as c.args.words.now c.args.dest o c.args.b.now c.emit_call.new.b (Apply c.in-Call.function (row_in c.as_slice.result.now)) (tree_of c.args.e.now) h k) c.emit_call.ensures.code
+    let h : Apply c.in-Call.function (arguments_in c.as_slice.result.now) ≡ tree_of c.args.e.now = ap (λ z. Apply c.in-Call.function (arguments_in z)) c.as_slice.ensures.value ∙ sym (view-Call c.in-Call.function c.in-Call.all) ∙ ap tree_of (sym c.in-Call.is) in
+    IfOk-weaker c.emit_call.result _ _ (λ o k. emits_as c.args.words.now c.args.dest o c.args.b.now c.emit_call.new.b (Apply c.in-Call.function (arguments_in c.as_slice.result.now)) (tree_of c.args.e.now) h k) c.emit_call.ensures.code
 
 pub emit_call-returns-clause-code : goal.emit_call-returns-clause-code
 emit_call-returns-clause-code t c =
-    emits_call c.args.words.now c.args.function c.in_ok-t.t c.in_ok-next.next c.args.dest (row_in c.args.all.now) c.in_ok-arguments.arguments c.args.b.now c.emit_row.new.b c.target.new.b c.reserve.new.self c.close.new.self c.in_ok-arguments.ensures.code c.in_ok-t.ensures c.in_ok-next.ensures c.close.ensures
+    emits_call c.args.words.now c.args.function c.in_ok-t.t c.in_ok-next.next c.args.dest (arguments_in c.args.all.now) c.in_ok-arguments.arguments c.args.b.now c.emit_arguments.new.b c.target.new.b c.reserve.new.self c.close.new.self c.in_ok-arguments.ensures.code c.in_ok-t.ensures c.in_ok-next.ensures c.close.ensures
 
 pub emit_value-returns-in-Element-clause-fits : goal.emit_value-returns-in-Element-clause-fits
 emit_value-returns-in-Element-clause-fits t c =
@@ -111,12 +111,12 @@ emit_element-returns-clause-fits t c =
 
 pub emit_value-returns-in-Call-clause-fits : goal.emit_value-returns-in-Call-clause-fits
 emit_value-returns-in-Call-clause-fits t c =
-    let h : Apply c.in-Call.function (row_in c.as_slice.result.now) ≡ tree_of c.args.e.now = ap (λ z. Apply c.in-Call.function (row_in z)) c.as_slice.ensures.value ∙ sym (view-Call c.in-Call.function c.in-Call.all) ∙ ap tree_of (sym c.in-Call.is) in
-    IfOk-weaker c.emit_call.result _ _ (λ o k. well_as c.args.dest o c.args.b.now c.emit_call.new.b (Apply c.in-Call.function (row_in c.as_slice.result.now)) (tree_of c.args.e.now) h k) c.emit_call.ensures.fits
+    let h : Apply c.in-Call.function (arguments_in c.as_slice.result.now) ≡ tree_of c.args.e.now = ap (λ z. Apply c.in-Call.function (arguments_in z)) c.as_slice.ensures.value ∙ sym (view-Call c.in-Call.function c.in-Call.all) ∙ ap tree_of (sym c.in-Call.is) in
+    IfOk-weaker c.emit_call.result _ _ (λ o k. well_as c.args.dest o c.args.b.now c.emit_call.new.b (Apply c.in-Call.function (arguments_in c.as_slice.result.now)) (tree_of c.args.e.now) h k) c.emit_call.ensures.fits
 
 pub emit_call-returns-clause-fits : goal.emit_call-returns-clause-fits
 emit_call-returns-clause-fits t c =
-    call_well c.args.function c.in_ok-t.t c.in_ok-next.next c.args.dest (row_in c.args.all.now) c.in_ok-arguments.arguments c.args.b.now c.emit_row.new.b c.target.new.b c.reserve.new.self c.close.new.self c.in_ok-arguments.ensures.fits c.in_ok-t.ensures c.in_ok-next.ensures c.close.ensures
+    call_well c.args.function c.in_ok-t.t c.in_ok-next.next c.args.dest (arguments_in c.args.all.now) c.in_ok-arguments.arguments c.args.b.now c.emit_arguments.new.b c.target.new.b c.reserve.new.self c.close.new.self c.in_ok-arguments.ensures.fits c.in_ok-t.ensures c.in_ok-next.ensures c.close.ensures
 
 pub emit_value-returns-in-Unary-clause-code : goal.emit_value-returns-in-Unary-clause-code
 emit_value-returns-in-Unary-clause-code t c =
@@ -238,21 +238,33 @@ pub test_value-returns-clause-fits : goal.test_value-returns-clause-fits
 test_value-returns-clause-fits t c =
     IfOk-weaker c.truth.result _ _ (λ n h. value_tested n (tree_of c.args.e.now) c.in_ok-o.o c.args.b.now c.emit_value.new.b c.truth.new.b c.in_ok-o.ensures.fits h) c.truth.ensures.steps
 
-pub emit_row-loop-e-init : goal.emit_row-loop-e-init
-emit_row-loop-e-init t c = (
-  λ r. subst (λ z. EmitsFront c.args.words.now [] z c.args.b.now c.args.b.now) (sym c.new-arguments.ensures) (no_front c.args.words.now c.args.b.now r),
-  subst (λ z. RowsWell NoMore z c.args.b.now c.args.b.now) (sym c.new-arguments.ensures) (no_row c.args.b.now),
+pub emit_argument-returns-in_ok-push-in-Number-clause-code : goal.emit_argument-returns-in_ok-push-in-Number-clause-code
+emit_argument-returns-in_ok-push-in-Number-clause-code t c = λ r. record { own = c.in_ok-value-in-Number.value ∷ []; is = c.in_ok-push-in-Number.ensures.ok; front = subst (λ z. EmitsFront c.args.words.now (argument_before z NoMore) (c.in_ok-value-in-Number.value ∷ []) c.args.b.now c.emit_value.new.b) (sym c.in-Number.is) (number_front c.args.words.now (tree_of c.in-Number.e) c.in_ok-value-in-Number.value c.args.b.now c.emit_value.new.b c.in_ok-value-in-Number.ensures.code r) }
+
+pub emit_argument-returns-in_ok-push-in-Number-clause-fits : goal.emit_argument-returns-in_ok-push-in-Number-clause-fits
+emit_argument-returns-in_ok-push-in-Number-clause-fits t c = behind_well (argument_before c.args.argument.now NoMore) (c.in_ok-value-in-Number.value ∷ []) c.args.passed.now c.push.new.self c.args.b.now c.emit_value.new.b c.in_ok-push-in-Number.ensures.ok (subst (λ z. RowsWell c.args.words.now (argument_before z NoMore) (c.in_ok-value-in-Number.value ∷ []) c.args.b.now c.emit_value.new.b) (sym c.in-Number.is) (number_row (tree_of c.in-Number.e) c.in_ok-value-in-Number.value c.args.b.now c.emit_value.new.b c.in_ok-value-in-Number.ensures.fits))
+
+pub emit_argument-returns-in_ok-push-in-Array-2-clause-code : goal.emit_argument-returns-in_ok-push-in-Array-2-clause-code
+emit_argument-returns-in_ok-push-in-Array-2-clause-code t c = λ r. record { own = Held c.in_ok-base-in-Array.base ∷ c.of.result ∷ []; is = c.in_ok-push-in-Array-2.ensures.ok ∙ ap (λ z. z ++ c.of.result ∷ []) c.in_ok-push-in-Array.ensures.ok ∙ append_assoc c.args.passed.now (Held c.in_ok-base-in-Array.base ∷ []) (c.of.result ∷ []); front = subst (λ z. EmitsFront c.args.words.now (argument_before z NoMore) (Held c.in_ok-base-in-Array.base ∷ c.of.result ∷ []) c.args.b.now c.stand.new.b) (sym c.in-Array.is) (array_front c.args.words.now c.in-Array.array c.in_ok-base-in-Array.base c.of.result c.args.b.now c.stand.new.b c.of.ensures c.in_ok-base-in-Array.ensures.code r) }
+
+pub emit_argument-returns-in_ok-push-in-Array-2-clause-fits : goal.emit_argument-returns-in_ok-push-in-Array-2-clause-fits
+emit_argument-returns-in_ok-push-in-Array-2-clause-fits t c = behind_well (argument_before c.args.argument.now NoMore) (Held c.in_ok-base-in-Array.base ∷ c.of.result ∷ []) c.args.passed.now c.push-in-Array-2.new.self c.args.b.now c.stand.new.b (c.in_ok-push-in-Array-2.ensures.ok ∙ ap (λ z. z ++ c.of.result ∷ []) c.in_ok-push-in-Array.ensures.ok ∙ append_assoc c.args.passed.now (Held c.in_ok-base-in-Array.base ∷ []) (c.of.result ∷ [])) (subst (λ z. RowsWell c.args.words.now (argument_before z NoMore) (Held c.in_ok-base-in-Array.base ∷ c.of.result ∷ []) c.args.b.now c.stand.new.b) (sym c.in-Array.is) (array_row c.in-Array.array c.in_ok-base-in-Array.base c.of.result c.args.b.now c.stand.new.b c.of.ensures c.in_ok-base-in-Array.ensures.fits))
+
+pub emit_arguments-loop-argument-init : goal.emit_arguments-loop-argument-init
+emit_arguments-loop-argument-init t c = (
+  λ r. subst (λ z. EmitsFront c.args.words.now NoMore z c.args.b.now c.args.b.now) (sym c.new-passed.ensures) (no_front c.args.words.now c.args.b.now r),
+  subst (λ z. RowsWell c.args.words.now NoMore z c.args.b.now c.args.b.now) (sym c.new-passed.ensures) (no_row c.args.b.now),
 )
 
-pub emit_row-loop-e-preserved : goal.emit_row-loop-e-preserved
-emit_row-loop-e-preserved t c =
-    let next = sym (take_next c.args.all.now c.loop-e.e-index c.e-item.result c.loop-e-test.true c.e-item.is) in (
-      λ r. subst (λ z. EmitsFront c.args.words.now z c.push.new.self c.args.b.now c.emit_value.new.b) next (more_front c.args.words.now (take c.loop-e.e-index c.args.all.now) c.e-item.result c.loop-e.arguments c.push.new.self c.in_ok-value.value c.args.b.now c.loop-e.b c.emit_value.new.b c.loop-e.invariant.0 c.in_ok-value.ensures.code c.in_ok-push.ensures.ok r),
-      subst (λ z. RowsWell (row_in z) c.push.new.self c.args.b.now c.emit_value.new.b) next (more_row (take c.loop-e.e-index c.args.all.now) c.e-item.result c.loop-e.arguments c.push.new.self c.in_ok-value.value c.args.b.now c.loop-e.b c.emit_value.new.b c.loop-e.invariant.1 c.in_ok-value.ensures.fits c.in_ok-push.ensures.ok),
+pub emit_arguments-loop-argument-preserved : goal.emit_arguments-loop-argument-preserved
+emit_arguments-loop-argument-preserved t c =
+    let next = sym (take_next c.args.all.now c.loop-argument.argument-index c.argument-item.result c.loop-argument-test.true c.argument-item.is) in (
+      λ r. subst (λ z. EmitsFront c.args.words.now (arguments_in z) c.emit_argument.new.passed c.args.b.now c.emit_argument.new.b) next (more_arguments c.args.words.now (take c.loop-argument.argument-index c.args.all.now) c.argument-item.result c.loop-argument.passed c.emit_argument.new.passed c.args.b.now c.loop-argument.b c.emit_argument.new.b c.loop-argument.invariant.0 c.in_ok-emit_argument.ensures.code r),
+      subst (λ z. RowsWell c.args.words.now (arguments_in z) c.emit_argument.new.passed c.args.b.now c.emit_argument.new.b) next (more_arguments_well (take c.loop-argument.argument-index c.args.all.now) c.argument-item.result c.loop-argument.passed c.emit_argument.new.passed c.args.b.now c.loop-argument.b c.emit_argument.new.b c.loop-argument.invariant.1 c.in_ok-emit_argument.ensures.fits),
     )
 
-pub emit_row-returns-clause-code : goal.emit_row-returns-clause-code
-emit_row-returns-clause-code t c = λ r. subst (λ z. EmitsRow c.args.words.now (row_in z) c.loop-e.arguments c.args.b.now c.loop-e.b) (take_whole c.args.all.now c.loop-e.e-index c.loop-e-test.false) (whole_row c.args.words.now (take c.loop-e.e-index c.args.all.now) c.loop-e.arguments c.args.b.now c.loop-e.b c.loop-e.invariant.0 r)
+pub emit_arguments-returns-clause-code : goal.emit_arguments-returns-clause-code
+emit_arguments-returns-clause-code t c = λ r. subst (λ z. EmitsRow c.args.words.now (arguments_in z) c.loop-argument.passed c.args.b.now c.loop-argument.b) (take_whole c.args.all.now c.loop-argument.argument-index c.loop-argument-test.false) (whole_row c.args.words.now (arguments_in (take c.loop-argument.argument-index c.args.all.now)) c.loop-argument.passed c.args.b.now c.loop-argument.b c.loop-argument.invariant.0 r)
 
-pub emit_row-returns-clause-fits : goal.emit_row-returns-clause-fits
-emit_row-returns-clause-fits t c = subst (λ z. RowsWell (row_in z) c.loop-e.arguments c.args.b.now c.loop-e.b) (take_whole c.args.all.now c.loop-e.e-index c.loop-e-test.false) c.loop-e.invariant.1
+pub emit_arguments-returns-clause-fits : goal.emit_arguments-returns-clause-fits
+emit_arguments-returns-clause-fits t c = subst (λ z. RowsWell c.args.words.now (arguments_in z) c.loop-argument.passed c.args.b.now c.loop-argument.b) (take_whole c.args.all.now c.loop-argument.argument-index c.loop-argument-test.false) c.loop-argument.invariant.1

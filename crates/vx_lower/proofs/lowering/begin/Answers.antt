@@ -11,5 +11,5 @@ begins_as n blocks ops banks e h k = λ i. record { blocks = e i; current = 0; o
 
 pub returns : goal.returns
 returns c =
-    let banks : c.in_ok-banks.banks.items ≡ replicate c.args.scalars General = c.in_ok-banks.ensures.items_if_clones_equal (λ bank same. same) in
-    begins_as c.args.scalars _ c.new.result c.in_ok-from_vec.field-0 (c.blocks-2.view_is ∙ c.in_ok-push.ensures.ok ∙ ap (λ blocks. blocks ++ None ∷ []) c.new-blocks.ensures) c.new.ensures (c.in_ok-from_vec.ensures ∙ banks)
+    let banks : c.in_ok-banks.banks.items ≡ replicate c.args.values General = c.in_ok-banks.ensures.items_if_clones_equal (λ bank same. same) in
+    begins_as c.args.values _ c.new.result c.in_ok-from_vec.field-0 (c.blocks-2.view_is ∙ c.in_ok-push.ensures.ok ∙ ap (λ blocks. blocks ++ None ∷ []) c.new-blocks.ensures) c.new.ensures (c.in_ok-from_vec.ensures ∙ banks)

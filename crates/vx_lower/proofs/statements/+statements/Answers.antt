@@ -168,7 +168,7 @@ pub emit_all-loop-s-preserved : goal.emit_all-loop-s-preserved
 emit_all-loop-s-preserved t c =
     let next = sym (take_next c.args.all.now c.loop-s.s-index c.s-item.result c.loop-s-test.true c.s-item.is) in (
       subst (λ z. Ready c.args.b.now → Makes c.args.words.now (all_in z) c.args.leaves c.args.again c.args.b.now c.emit_statement.new.b c.args.texts.now c.emit_statement.new.texts) next (makes_more c.args.words.now c.args.leaves c.args.again (take c.loop-s.s-index c.args.all.now) c.s-item.result c.args.b.now c.loop-s.b c.emit_statement.new.b c.args.texts.now c.loop-s.texts c.emit_statement.new.texts c.loop-s.invariant.0 c.in_ok-emit_statement.ensures.code),
-      subst (λ z. StatementWell (all_in z) c.args.leaves c.args.again c.args.b.now c.emit_statement.new.b c.args.texts.now c.emit_statement.new.texts) next (more_well c.args.leaves c.args.again (take c.loop-s.s-index c.args.all.now) c.s-item.result c.args.b.now c.loop-s.b c.emit_statement.new.b c.args.texts.now c.loop-s.texts c.emit_statement.new.texts c.loop-s.invariant.1 c.in_ok-emit_statement.ensures.fits),
+      subst (λ z. StatementWell c.args.words.now (all_in z) c.args.leaves c.args.again c.args.b.now c.emit_statement.new.b c.args.texts.now c.emit_statement.new.texts) next (more_well c.args.leaves c.args.again (take c.loop-s.s-index c.args.all.now) c.s-item.result c.args.b.now c.loop-s.b c.emit_statement.new.b c.args.texts.now c.loop-s.texts c.emit_statement.new.texts c.loop-s.invariant.1 c.in_ok-emit_statement.ensures.fits),
     )
 
 pub emit_all-returns-clause-code : goal.emit_all-returns-clause-code
@@ -177,4 +177,4 @@ emit_all-returns-clause-code t c =
 
 pub emit_all-returns-clause-fits : goal.emit_all-returns-clause-fits
 emit_all-returns-clause-fits t c =
-    subst (λ z. StatementWell (all_in z) c.args.leaves c.args.again c.args.b.now c.loop-s.b c.args.texts.now c.loop-s.texts) (take_whole c.args.all.now c.loop-s.s-index c.loop-s-test.false) c.loop-s.invariant.1
+    subst (λ z. StatementWell c.args.words.now (all_in z) c.args.leaves c.args.again c.args.b.now c.loop-s.b c.args.texts.now c.loop-s.texts) (take_whole c.args.all.now c.loop-s.s-index c.loop-s-test.false) c.loop-s.invariant.1

@@ -15,11 +15,11 @@ pub loop-item-preserved : goal.loop-item-preserved
 loop-item-preserved c =
     let next = sym (take_next c.args.items.now c.loop-item.item-index c.item-item.result c.loop-item-test.true c.item-item.is) in (
       subst (λ z. Ready c.args.b.now → MakesPlain c.args.words.now (items_of z) c.args.b.now c.emit_item.new.b) next (plain_more c.args.words.now (take c.loop-item.item-index c.args.items.now) c.item-item.result c.args.b.now c.loop-item.b c.emit_item.new.b c.loop-item.invariant.0 c.in_ok-emit_item.ensures.code),
-      subst (λ z. PlainWell (items_of z) c.args.b.now c.emit_item.new.b) next (plain_more_well (take c.loop-item.item-index c.args.items.now) c.item-item.result c.args.b.now c.loop-item.b c.emit_item.new.b c.loop-item.invariant.1 c.in_ok-emit_item.ensures.fits),
+      subst (λ z. PlainWell c.args.words.now (items_of z) c.args.b.now c.emit_item.new.b) next (plain_more_well (take c.loop-item.item-index c.args.items.now) c.item-item.result c.args.b.now c.loop-item.b c.emit_item.new.b c.loop-item.invariant.1 c.in_ok-emit_item.ensures.fits),
     )
 
 pub returns-clause-code : goal.returns-clause-code
 returns-clause-code c = subst (λ z. Ready c.args.b.now → MakesPlain c.args.words.now (items_of z) c.args.b.now c.loop-item.b) (take_whole c.args.items.now c.loop-item.item-index c.loop-item-test.false) c.loop-item.invariant.0
 
 pub returns-clause-fits : goal.returns-clause-fits
-returns-clause-fits c = subst (λ z. PlainWell (items_of z) c.args.b.now c.loop-item.b) (take_whole c.args.items.now c.loop-item.item-index c.loop-item-test.false) c.loop-item.invariant.1
+returns-clause-fits c = subst (λ z. PlainWell c.args.words.now (items_of z) c.args.b.now c.loop-item.b) (take_whole c.args.items.now c.loop-item.item-index c.loop-item-test.false) c.loop-item.invariant.1

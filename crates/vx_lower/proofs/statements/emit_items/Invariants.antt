@@ -6,4 +6,4 @@ use Rattle.vx_lower.specs.StatementFits.{PlainWell}
 use Rattle.vx_lower.proofs.statements.emit_items.Given as goal
 
 abbrev pub invariant-loop-item : goal.invariant-loop-item
-invariant-loop-item l = (Ready l.fn.b → MakesPlain l.fn.words (items_of (take l.item-index l.fn.items)) l.fn.b l.b) × PlainWell (items_of (take l.item-index l.fn.items)) l.fn.b l.b
+invariant-loop-item l = (Ready l.fn.b → MakesPlain l.fn.words (items_of (take l.item-index l.fn.items)) l.fn.b l.b) × PlainWell l.fn.words (items_of (take l.item-index l.fn.items)) l.fn.b l.b
