@@ -11,7 +11,7 @@ use Rattle.vx_flow.specs.declared.graph.Array.{Array}
 use Rattle.vx_flow.specs.declared.graph.Graph.{Graph}
 use Rattle.vx_flow.specs.declared.graph.Flow.{Flow}
 use Rattle.vx_flow.specs.Effects.{Content, State, Setting, effect}
-use Rattle.vx_flow.specs.Meaning.{Hop, Frame, Active, Program, leave, and_then, block_hop, deepest, waits, undefined, at_entry, after_hop, body_hop, body_of, hop, next, program_of, program_run, returned, entered_or, start, globals_at_start, words_at_start}
+use Rattle.vx_flow.specs.Meaning.{Hop, Frame, Active, Program, bases_in, bases_of, spots_held, enters_passed, leave, and_then, block_hop, deepest, waits, undefined, at_entry, after_hop, body_hop, body_of, hop, next, program_of, program_run, returned, entered_or, start, globals_at_start, words_at_start}
 use Rattle.vx_tally.specs.declared.ends.Ending.{Ending}
 use Rattle.vx_tally.specs.declared.machine.Waiting.{Waiting}
 use Rattle.vx_tally.specs.declared.machine.Machine.{Machine}
@@ -66,19 +66,13 @@ full_is n = by (nat_le 511 n) (nat_le 512 (n + 1)) refl refl
 
 -- the start
 
-pub own_is : (arrays : List Array) → map undefined (map (λ a. a.words) arrays) ≡ undefined_all arrays
-own_is [] = refl
-own_is (a ∷ arrays) = ap (λ rows. undefined a.words ∷ rows) (own_is arrays)
-
 no_arguments : (qs : List ℕ) (v : ℕ) → at_entry qs [] v ≡ None
 no_arguments [] v = refl
 no_arguments (q ∷ qs) v = refl
 
 start_by : (flow : Flow) (o : Option Graph) (s : State) → s.values ≡ (λ v. None) → record s { arrays = s.arrays ++ undefined_all (own_in flow o) } ≡ entered_or (option_map (body_of (length flow.globals)) o) s
 start_by flow None s h = ap (λ rows. record s { arrays = rows }) (append-nil s.arrays)
-start_by flow (Some g) s h =
-    ap (λ f. record s { values = f; arrays = s.arrays ++ undefined_all (drop (length flow.globals) g.arrays) }) (h ∙ fun_ext (λ v. sym (no_arguments g.parameters v)))
-    ∙ ap (λ rows. record s { values = at_entry g.parameters []; arrays = s.arrays ++ rows }) (sym (own_is (drop (length flow.globals) g.arrays)))
+start_by flow (Some g) s h = ap (λ f. record s { values = f; arrays = s.arrays ++ undefined_all (drop (length flow.globals) g.arrays) }) (h ∙ fun_ext (λ v. sym (no_arguments g.parameters v)))
 
 pub start_is : (flow : Flow) (input : List ℤ) (f : ℕ → Content) (rows arrays : List (List Content)) (base : ℕ) → ((v : ℕ) → f v ≡ None) → rows ≡ map words_at_start flow.globals → arrays ≡ rows ++ undefined_all (own_in flow (slice_get flow.functions flow.main)) → base ≡ length rows →
     record { function = flow.main; block = 0; passed = []; base = base; state = record { values = f; arrays = arrays; input = input; out = [] }; waiting = [] } ≡ start flow input
@@ -124,23 +118,34 @@ step_after ending p r t (Hop.Leaves n s) m k = k
 step_after ending p r t (Hop.Stops trap s) m k = k
 step_after ending p r t Hop.Wrong m k = wrong_ends ending t.out r.state.out m k
 
-pub entered_is : (a : Active) (g : ℕ) (values : ℕ → Content) (own : List Array) (result : Option ℕ) (to : ℕ) (passed : List (Option ℕ)) (base : ℕ) (f : ℕ → Content) (arrays : List (List Content)) (ws : List Frame) → passed ≡ [] → base ≡ length a.state.arrays → f ≡ values →
+pub entered_is : (a : Active) (g : ℕ) (values : ℕ → Content) (given : List (Option ℕ)) (own : List Array) (result : Option ℕ) (to : ℕ) (passed : List (Option ℕ)) (base : ℕ) (f : ℕ → Content) (arrays : List (List Content)) (ws : List Frame) → passed ≡ given → base ≡ length a.state.arrays → f ≡ values →
     arrays ≡ a.state.arrays ++ undefined_all own → ws ≡ waits a result a.block to a.state ∷ a.waiting →
-    record { function = g; block = 0; passed = passed; base = base; state = record (a.state) { values = f; arrays = arrays }; waiting = ws } ≡ entered_by a g values own result to
-entered_is a g values own result to passed base f arrays ws p b v r w =
+    record { function = g; block = 0; passed = passed; base = base; state = record (a.state) { values = f; arrays = arrays }; waiting = ws } ≡ entered_by a g values given own result to
+entered_is a g values given own result to passed base f arrays ws p b v r w =
     ap (λ q. record { function = g; block = 0; passed = q; base = base; state = record (a.state) { values = f; arrays = arrays }; waiting = ws }) p
-    ∙ ap (λ q. record { function = g; block = 0; passed = []; base = q; state = record (a.state) { values = f; arrays = arrays }; waiting = ws }) b
-    ∙ ap (λ q. record { function = g; block = 0; passed = []; base = length a.state.arrays; state = record (a.state) { values = q; arrays = arrays }; waiting = ws }) v
-    ∙ ap (λ q. record { function = g; block = 0; passed = []; base = length a.state.arrays; state = record (a.state) { values = values; arrays = q }; waiting = ws }) r
-    ∙ ap (λ q. record { function = g; block = 0; passed = []; base = length a.state.arrays; state = record (a.state) { values = values; arrays = a.state.arrays ++ undefined_all own }; waiting = q }) w
+    ∙ ap (λ q. record { function = g; block = 0; passed = given; base = q; state = record (a.state) { values = f; arrays = arrays }; waiting = ws }) b
+    ∙ ap (λ q. record { function = g; block = 0; passed = given; base = length a.state.arrays; state = record (a.state) { values = q; arrays = arrays }; waiting = ws }) v
+    ∙ ap (λ q. record { function = g; block = 0; passed = given; base = length a.state.arrays; state = record (a.state) { values = values; arrays = q }; waiting = ws }) r
+    ∙ ap (λ q. record { function = g; block = 0; passed = given; base = length a.state.arrays; state = record (a.state) { values = values; arrays = a.state.arrays ++ undefined_all own }; waiting = q }) w
 
-pub enters_is : (globals : ℕ) (r : Active) (g : ℕ) (graph : Graph) (arguments : List ℤ) (result : Option ℕ) (to : ℕ) (f : ℕ → Content) (own : List Array) (a : Active) → ((v : ℕ) → f v ≡ at_entry graph.parameters arguments v) → own ≡ drop globals graph.arrays → a ≡ entered_by r g f own result to →
-    called_by r globals g (Some graph) arguments result to ≡ On a
-enters_is globals r g graph arguments result to f own a v o e =
-    ap (λ rows. Step.On (record { function = g; block = 0; passed = []; base = length r.state.arrays; state = record (r.state) { values = at_entry graph.parameters arguments; arrays = r.state.arrays ++ rows }; waiting = waits r result r.block to r.state ∷ r.waiting })) (own_is (drop globals graph.arrays))
-    ∙ ap (λ q. Step.On (entered_by r g (at_entry graph.parameters arguments) q result to)) (sym o)
-    ∙ ap (λ q. Step.On (entered_by r g q own result to)) (sym (fun_ext v))
+-- what is passed to the function that is called
+pub passed_is : (globals : ℕ) (arrays : ℕ) (graph : Graph) (arguments : List ℤ) (f : ℕ → Content) (own : List Array) (o : Option (List (Option ℕ))) → ((v : ℕ) → f v ≡ at_entry graph.parameters arguments v) → own ≡ drop globals graph.arrays → spots_held arrays f (bases_in own) ≡ o →
+    spots_held arrays (at_entry graph.parameters arguments) (bases_of globals graph) ≡ o
+passed_is globals arrays graph arguments f own o v e k = ap (λ q. spots_held arrays q (bases_of globals graph)) (sym (fun_ext v)) ∙ ap (λ q. spots_held arrays f (bases_in q)) (sym e) ∙ k
+
+pub enters_is : (globals : ℕ) (r : Active) (g : ℕ) (graph : Graph) (arguments : List ℤ) (result : Option ℕ) (to : ℕ) (f : ℕ → Content) (passed : List (Option ℕ)) (own : List Array) (a : Active) → ((v : ℕ) → f v ≡ at_entry graph.parameters arguments v) → own ≡ drop globals graph.arrays →
+    spots_held (length r.state.arrays) f (bases_in own) ≡ Some passed → a ≡ entered_by r g f passed own result to → called_by r globals g (Some graph) arguments result to ≡ On a
+enters_is globals r g graph arguments result to f passed own a v o k e =
+    ap (enters_passed g (body_of globals graph) arguments r.state (waits r result r.block to r.state ∷ r.waiting)) (passed_is globals (length r.state.arrays) graph arguments f own (Some passed) v o k)
+    ∙ ap (λ q. Step.On (entered_by r g (at_entry graph.parameters arguments) passed q result to)) (sym o)
+    ∙ ap (λ q. Step.On (entered_by r g q passed own result to)) (sym (fun_ext v))
     ∙ ap Step.On (sym e)
+
+-- the run is wrong where a base holds no spot of an array
+pub enters_wrong : (globals : ℕ) (r : Active) (g : ℕ) (graph : Graph) (arguments : List ℤ) (result : Option ℕ) (to : ℕ) (f : ℕ → Content) (own : List Array) → ((v : ℕ) → f v ≡ at_entry graph.parameters arguments v) → own ≡ drop globals graph.arrays →
+    spots_held (length r.state.arrays) f (bases_in own) ≡ None → called_by r globals g (Some graph) arguments result to ≡ Over (Outcome.Wrong r.state.out)
+enters_wrong globals r g graph arguments result to f own v o k =
+    ap (enters_passed g (body_of globals graph) arguments r.state (waits r result r.block to r.state ∷ r.waiting)) (passed_is globals (length r.state.arrays) graph arguments f own None v o k)
 
 pub full_stops : (flow : Flow) (r : Active) (g : ℕ) (arguments : List ℤ) (result : Option ℕ) (to : ℕ) → nat_le deepest (length r.waiting + 1) ≡ true → after_hop (program_of flow) r (Hop.Calls g arguments result r.block to r.state) ≡ Over (Traps Depth r.state.out)
 full_stops flow r g arguments result to e = ap (λ b. cond b (Step.Over (Traps Depth r.state.out)) (called_by r (length flow.globals) g (slice_get flow.functions g) arguments result to)) e

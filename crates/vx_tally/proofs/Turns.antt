@@ -2,14 +2,12 @@
 use Rattle.std.proofs.Common.{◌≡◌, ℕ, zero, suc, ◌+◌, ◌-◌, ◌<◌, ◌≤◌, ℤ, pos, Bool, true, false, ltb, ltb-true, ltb-false, List, [], ◌∷◌, ◌++◌, length, map, drop, take, get_or, replicate, slice_get, slice_set, Option, Some, None, refl, sym, ap, ◌∙◌, append-nil, append_assoc, arith}
 use Rattle.std.proofs.lemmas.List.{drop_all, drop_more, map_more}
 use Rattle.std.proofs.lemmas.Option.{slice_get-get_or, slice_get_past}
-use Rattle.vx_flow.specs.declared.graph.Array.{Array}
 use Rattle.vx_flow.specs.declared.graph.Global.{Global}
 use Rattle.vx_flow.specs.declared.graph.Op.{Op}
 use Rattle.vx_flow.specs.declared.graph.Operand.{Operand}
 use Rattle.vx_flow.specs.Effects.{Content, State, Setting, effect, held}
-use Rattle.vx_flow.specs.Meaning.{known, spot_behind, undefined, with_front, words_at_start}
+use Rattle.vx_flow.specs.Meaning.{known, spot_behind, with_front, words_at_start}
 use Rattle.vx_tally.specs.Storage.{came, and_after, effects}
-use Rattle.vx_tally.specs.Machine.{undefined_all}
 use Rattle.vx_tally.proofs.Running.{with_all}
 
 -- what a slice of the list says of a place
@@ -63,11 +61,6 @@ pub effects_end : (setting : Setting) (o : Option State) (s : State) (ops : List
 effects_end setting o s ops i le e = e ∙ ap (effects setting s) (drop_all i ops le)
 
 -- arrays
-
-pub arrays_turn : (own : List Array) (i : ℕ) (d : Array) (first rows : List (List Content)) (cells : List Content) → i < length own → rows ≡ first ++ undefined_all (take i own) → cells ≡ replicate (get_or own i d).words None → rows ++ cells ∷ [] ≡ first ++ undefined_all (take (i + 1) own)
-arrays_turn own i d first rows cells lt e h =
-    ap (λ r. r ++ cells ∷ []) e ∙ append_assoc first (undefined_all (take i own)) (cells ∷ [])
-    ∙ ap (λ q. first ++ q) (ap (λ c. undefined_all (take i own) ++ c ∷ []) h ∙ sym (map_more (λ a. undefined a.words) own i d lt))
 
 pub globals_turn : (globals : List Global) (i : ℕ) (d : Global) (rows : List (List Content)) (cells now : List Content) → i < length globals → rows ≡ map words_at_start (take i globals) → cells ≡ replicate (get_or globals i d).words (Some (pos 0)) →
     now ≡ slice_set cells 0 (Some (get_or globals i d).first) → rows ++ now ∷ [] ≡ map words_at_start (take (i + 1) globals)

@@ -1,9 +1,10 @@
 -- A run as it is held: the active function and those that wait, and what its steps come to.
-use Rattle.std.specs.Prelude.{◌≡◌, ℕ, ℤ, Option, Some, None, List, [], ◌∷◌, ◌++◌, length, drop, map, slice_get, Bool, true, false}
+use Rattle.std.specs.Prelude.{◌≡◌, ℕ, ℤ, Option, Some, None, List, [], ◌∷◌, ◌++◌, length, drop, map, slice_get, Bool, true, false, Vec}
 use Rattle.std.specs.Option.{option_map}
+use Rattle.std.specs.declared.alloc.Global.{Global}
 use Rattle.vx_base.specs.Outcome.{Outcome, Ends, Traps, Goes, Step, On, Over}
 use Rattle.vx_flow.specs.Effects.{Content, State}
-use Rattle.vx_flow.specs.Meaning.{Hop, Visit, AtBlock, AlongEdge, Frame, Active, Program, edge_back, edge_taken, hop, hop_of, body_of, enters, undefined, waits}
+use Rattle.vx_flow.specs.Meaning.{Hop, Visit, AtBlock, AlongEdge, Frame, Active, Program, edge_back, edge_taken, hop, hop_of, body_of, enters, spot_held, undefined, waits, words_in}
 use Rattle.vx_flow.specs.declared.graph.Flow.{Flow}
 use Rattle.vx_flow.specs.declared.graph.Graph.{Graph}
 use Rattle.vx_flow.specs.declared.graph.Array.{Array}
@@ -50,21 +51,35 @@ stacked below (w ∷ ws) = stacked (frame_of w ∷ below) ws
 abbrev pub active_of : Machine → Active
 active_of m = record { function = m.function; block = m.block; passed = m.passed.items; base = m.base; state = state_of m.storage; waiting = stacked [] m.waiting.items }
 
--- arrays that are undefined
+-- the arrays that have no base, undefined
 abbrev pub undefined_all : List Array → List (List Content)
-undefined_all arrays = map (λ a. undefined a.words) arrays
+undefined_all arrays = map undefined (words_in arrays)
 
--- a function's own arrays
+-- the bases of arrays, each at its place
+abbrev pub all_bases : List Array → List (Option ℕ)
+all_bases arrays = map (λ a. a.base) arrays
+
+-- what is passed for an array with this base, or with none
+abbrev pub entry_held : (arrays : ℕ) → (ℕ → Content) → (base : Option ℕ) → Option (Option ℕ)
+entry_held arrays values None = Some None
+entry_held arrays values (Some v) = option_map Some (spot_held arrays (values v))
+
+-- the spots that are passed, as they are listed
+abbrev pub spots_of : Option (Vec (Option ℕ) Global) → Option (List (Option ℕ))
+spots_of None = None
+spots_of (Some spots) = Some spots.items
+
+-- a function's arrays behind the globals
 abbrev pub own_in : Flow → Option Graph → List Array
 own_in flow None = []
 own_in flow (Some g) = drop (length flow.globals) g.arrays
 
--- the active function waits, and another one is active with these values and own arrays
-abbrev pub entered_by : Active → (function : ℕ) → (values : ℕ → Content) → (own : List Array) → (result : Option ℕ) → (next : ℕ) → Active
-entered_by r g values own result next = record {
+-- the active function waits, and another one is active with these values, spots that are passed to it and arrays behind the globals
+abbrev pub entered_by : Active → (function : ℕ) → (values : ℕ → Content) → (passed : List (Option ℕ)) → (own : List Array) → (result : Option ℕ) → (next : ℕ) → Active
+entered_by r g values passed own result next = record {
   function = g;
   block = 0;
-  passed = [];
+  passed = passed;
   base = length r.state.arrays;
   state = record (r.state) { values = values; arrays = r.state.arrays ++ undefined_all own };
   waiting = waits r result r.block next r.state ∷ r.waiting;

@@ -5,6 +5,7 @@
 mod blocks;
 mod cells;
 mod ends;
+mod entering;
 mod machine;
 mod operations;
 mod plain;

@@ -10,11 +10,13 @@ ghost use Rattle.vx_tally.specs.Tally.{TallyMore};
 use crate::blocks::run_block;
 use crate::cells::Cells;
 use crate::ends::{Ending, Left};
+use crate::entering::spots;
 use crate::storage::{Storage, set_value};
 use crate::tally::Tally;
 use std::alloc::Global;
 use std::mem::replace;
 use vx_base::outcome::{NoMemory, Trap};
+use vx_flow::arrays::has_base;
 use vx_flow::graph::{Array, BlockId, Flow, Global as GlobalArray, Graph, Value};
 
 /// The most functions that are active at a time.
@@ -201,6 +203,7 @@ fn call_any(
     }
 }
 
+/// Calls a function that is there. The run is wrong where one of its bases holds no spot of an array.
 fn call_graph(
     alloc: Global,
     machine: &mut Machine,
@@ -213,10 +216,17 @@ fn call_graph(
 ) -> Result<Option<Ending>, NoMemory>
     ensures { IfOk result (λ ending. IsStep ending (called_by (active_of machine.old) globals function (Some graph.now) arguments.now result_to next) machine.new) }
 {
-    let values = entry_values(alloc, graph.parameters.as_slice(), arguments)?;
     let own = own_arrays(graph, globals);
-    enter(alloc, machine, function, values, own, result_to, next)?;
-    Ok(None)
+    let values = entry_values(alloc, graph.parameters.as_slice(), arguments)?;
+    match spots(alloc, values.as_slice(), machine.storage.arrays.len(), own)? {
+        Some(passed) => {
+            enter(
+                alloc, machine, function, values, passed, own, result_to, next,
+            )?;
+            Ok(None)
+        }
+        None => Ok(Some(Ending::Wrong)),
+    }
 }
 
 /// Whether as many functions are active as may be, where so many wait.
@@ -248,7 +258,7 @@ fn entry_values(
     }
 }
 
-/// A function's own arrays.
+/// A function's arrays behind the globals.
 fn own_arrays(graph: &Graph, globals: usize) -> &[Array]
     ensures { result.now ≡ drop globals graph.now.arrays }
 {
@@ -260,33 +270,44 @@ fn own_arrays(graph: &Graph, globals: usize) -> &[Array]
     }
 }
 
-/// Adds arrays at the end, undefined.
+/// Adds those of these arrays that have no base at the end, undefined.
 fn add_arrays(alloc: Global, arrays: &mut Vec<Cells>, own: &[Array]) -> Result<(), NoMemory>
     ensures { OnOk result (arrays.new.items ≡ arrays.old.items ++ undefined_all own.now) }
 {
     for array in own {
-        let cells = Cells::filled(alloc, array.words, None)?;
-        arrays.push(cells)?;
+        add_array(alloc, arrays, array)?;
     }
     Ok(())
 }
 
-/// Makes the active function wait and another one active, to which no array is passed.
+fn add_array(alloc: Global, arrays: &mut Vec<Cells>, array: &Array) -> Result<(), NoMemory>
+    ensures { OnOk result (arrays.new.items ≡ arrays.old.items ++ undefined_all (array.now ∷ [])) }
+{
+    if has_base(array) {
+        return Ok(());
+    }
+    let cells = Cells::filled(alloc, array.words, None)?;
+    arrays.push(cells)?;
+    Ok(())
+}
+
+/// Makes the active function wait and another one active, to which arrays at these spots are passed.
 fn enter(
     alloc: Global,
     machine: &mut Machine,
     function: u32,
     values: Vec<Option<i32>>,
+    passed: Vec<Option<usize>>,
     own: &[Array],
     result_to: Option<Value>,
     next: BlockId,
 ) -> Result<(), NoMemory>
-    ensures { OnOk result (active_of machine.new ≡ entered_by (active_of machine.old) function (value_at values.items) own.now result_to next) }
+    ensures { OnOk result (active_of machine.new ≡ entered_by (active_of machine.old) function (value_at values.items) passed.items own.now result_to next) }
 {
     let base = machine.storage.arrays.len();
     add_arrays(alloc, &mut machine.storage.arrays, own)?;
     let values = replace(&mut machine.storage.values, values);
-    let passed = replace(&mut machine.passed, Vec::new(alloc));
+    let passed = replace(&mut machine.passed, passed);
     machine.waiting.push(Waiting {
         function: machine.function,
         from: machine.block,
@@ -343,13 +364,14 @@ fn set_result(
     }
 }
 
-/// The first active function at its entry.
+/// The first active function at its entry, to which nothing is passed.
 pub fn begin(alloc: Global, flow: &Flow, input: &[i32]) -> Result<Machine, NoMemory>
     ensures { IfOk result (λ machine. active_of machine ≡ start flow.now input.now) }
 {
+    let own = main_arrays(flow);
     let mut arrays = global_arrays(alloc, flow.globals.as_slice())?;
     let base = arrays.len();
-    add_arrays(alloc, &mut arrays, main_arrays(flow))?;
+    add_arrays(alloc, &mut arrays, own)?;
     let numbers = Vec::from_slice(alloc, input)?;
     Ok(Machine {
         function: flow.main,
@@ -367,7 +389,7 @@ pub fn begin(alloc: Global, flow: &Flow, input: &[i32]) -> Result<Machine, NoMem
     })
 }
 
-/// The own arrays of the function that is active first.
+/// The arrays behind the globals of the function that is active first.
 fn main_arrays(flow: &Flow) -> &[Array]
     ensures { result.now ≡ own_in flow.now (slice_get flow.now.functions flow.now.main) }
 {

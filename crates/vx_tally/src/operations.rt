@@ -1,11 +1,11 @@
 // What one operation does, and what operations do one after the other. The clauses are `effect` of the graph's meaning; the
 // answer is false where an operation has no meaning.
 
-ghost use Rattle.std.specs.Prelude.{◌≡◌, ◌<◌, ◌+◌, ◌++◌, [], IfOk, OnOk, None, Some, length, slice_index_or};
+ghost use Rattle.std.specs.Prelude.{◌≡◌, ◌<◌, ◌+◌, ◌++◌, [], IfOk, OnOk, None, Some, length, pos, slice_index_or};
 ghost use Rattle.std.specs.Fmt.{signed_decimal};
 ghost use Rattle.vx_base.specs.Arithmetic.{one_if, value_of};
 ghost use Rattle.vx_flow.specs.declared.graph.Op.TheVariants.{Text};
-ghost use Rattle.vx_flow.specs.Effects.{both, cell_in, chosen, computed, effect, held, is_left, is_one, loaded, next_input, place_of, printed, row_of, stored, with_value};
+ghost use Rattle.vx_flow.specs.Effects.{both, cell_in, chosen, computed, effect, held, is_left, is_one, loaded, next_input, place_by, place_of, printed, row_of, stored, with_value};
 ghost use Rattle.vx_flow.specs.Meaning.{spot_behind, spot_in};
 ghost use Rattle.vx_tally.specs.Storage.{came, effects, setting_in, state_of};
 
@@ -58,6 +58,16 @@ pub fn execute(
             right,
         } => select(storage, *to, *test, left, right),
         Op::Place { to, index, .. } => place(storage, *to, index),
+        Op::Base { to, array, .. } => {
+            let spot = spot_in(flow.globals.len(), passed, base, *array)?;
+            base_at(storage, *to, spot)
+        }
+        Op::PlaceIn {
+            to,
+            base,
+            index,
+            ..
+        } => place_by(storage, *to, *base, index),
         Op::Load {
             to,
             array,
@@ -223,6 +233,43 @@ fn place_of(index: Option<i32>) -> Option<i32>
 {
     match index {
         Some(number) => Some(mul32(4, number)),
+        None => None,
+    }
+}
+
+/// Where an array stands. There is want of memory for more arrays than can be told apart by numbers.
+fn base_at(storage: &mut Storage, to: Value, spot: usize) -> Result<bool, NoMemory>
+    ensures { IfOk result (λ done. Some (with_value (state_of storage.old) to (Some (pos spot))) ≡ came done (state_of storage.new)) }
+{
+    match i32::try_from(spot) {
+        Ok(number) => {
+            storage.write(to, Some(number))?;
+            Ok(true)
+        }
+        Err(_) => Err(NoMemory),
+    }
+}
+
+fn place_by(
+    storage: &mut Storage,
+    to: Value,
+    base: Value,
+    index: &Operand,
+) -> Result<bool, NoMemory>
+    ensures { IfOk result (λ done. Some (with_value (state_of storage.old) to (place_by ((state_of storage.old).values base) (held (state_of storage.old) index.now))) ≡ came done (state_of storage.new)) }
+{
+    let base = storage.value(base);
+    let index = storage.held(index);
+    let content = placed_by(base, index);
+    storage.write(to, content)?;
+    Ok(true)
+}
+
+fn placed_by(base: Option<i32>, index: Option<i32>) -> Option<i32>
+    ensures { result ≡ place_by base index }
+{
+    match base {
+        Some(_) => place_of(index),
         None => None,
     }
 }

@@ -15,5 +15,5 @@ returns c =
     ap (stacked []) c.in_ok-push.ensures.items ∙ stacked_push [] m.waiting.items frame
     ∙ ap (λ p. record { function = m.function; from = m.block; next = c.args.next; result = c.args.result_to; passed = p.items; base = m.base; values = value_at c.replace-values.result.items } ∷ stacked [] m.waiting.items) c.replace-passed.ensures.value
     ∙ ap (λ v. record { function = m.function; from = m.block; next = c.args.next; result = c.args.result_to; passed = m.passed.items; base = m.base; values = value_at v.items } ∷ stacked [] m.waiting.items) c.replace-values.ensures.value in
-    entered_is (active_of m) c.args.function (value_at c.args.values.items) c.args.own.now c.args.result_to c.args.next c.replace-passed.new.dest.items c.len-base.result (value_at c.replace-values.new.dest.items) c.add_arrays.new.arrays.items (stacked [] c.push.new.self.items)
-    (ap (λ p. p.items) c.replace-passed.ensures.after ∙ c.new.ensures.items) base (ap (λ v. value_at v.items) c.replace-values.ensures.after) c.in_ok-add_arrays.ensures waiting
+    entered_is (active_of m) c.args.function (value_at c.args.values.items) c.args.passed.items c.args.own.now c.args.result_to c.args.next c.replace-passed.new.dest.items c.len-base.result (value_at c.replace-values.new.dest.items) c.add_arrays.new.arrays.items (stacked [] c.push.new.self.items)
+    (ap (λ p. p.items) c.replace-passed.ensures.after) base (ap (λ v. value_at v.items) c.replace-values.ensures.after) c.in_ok-add_arrays.ensures waiting
