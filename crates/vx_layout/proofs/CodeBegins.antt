@@ -13,11 +13,11 @@ use Rattle.vx_flow.specs.declared.graph.Exit.{Exit}
 use Rattle.vx_flow.specs.declared.graph.Exit.TheVariants.{Goto, Split as Branches, Call, Return, Ends}
 use Rattle.vx_flow.specs.declared.graph.Graph.{Graph}
 use Rattle.vx_flow.specs.declared.graph.Op.{Op}
-use Rattle.vx_flow.specs.declared.graph.Op.TheVariants.{Compute, Select, Place, Load, Store, More, Input, Text, Decimal, Across}
+use Rattle.vx_flow.specs.declared.graph.Op.TheVariants.{Compute, Select, Place, Load, Store, More, Input, Text, Decimal, Across, Base, PlaceIn}
 use Rattle.vx_flow.specs.declared.graph.Operand.{Operand}
 use Rattle.vx_flow.specs.declared.graph.Operand.TheVariants.{Held, Number, Stack}
 use Rattle.vx_flow.specs.Effects.{IsIn, dismissed, reads, writes}
-use Rattle.vx_flow.specs.Sound.{is_general, is_branch, is_operand, is_right, is_written, is_sound_operation, is_sound_exit, is_sound_in, is_sound_block, is_sound, is_kept, is_access_placed, HasOperation, HasExit, bank_written}
+use Rattle.vx_flow.specs.Sound.{is_general, is_branch, is_operand, is_right, is_written, is_sound_operation, is_sound_exit, is_sound_in, is_sound_block, is_sound, HasOperation, HasExit, bank_written}
 use Rattle.vx_flow.proofs.IndexSteps.{get_below}
 use Rattle.vx_flow.proofs.SoundLaw.{sound_is}
 use Rattle.vx_mixed.specs.declared.region.Node.TheVariants.{Unused}
@@ -26,7 +26,7 @@ use Rattle.vx_mixed.specs.FromGraph.{OfGraph}
 use Rattle.vx_layout.specs.Origins.{whole, whole_operand, whole_op, ComesFrom, graph_op, ExitComesFrom, ComesFromGraph}
 use Rattle.vx_layout.specs.OriginLaws.{BeginsWithCode}
 use Rattle.vx_mixed.specs.Valid.{IsOp, block_op, region_op, names_of}
-use Rattle.vx_mixed.proofs.Begins.{bank_below, both_below, op_below, all_in, node_is, is_block, no_region}
+use Rattle.vx_mixed.proofs.Begins.{bank_below, both_below, op_below, all_in, sound_op, sound_blocks, node_is, is_block, no_region}
 use Rattle.vx_mixed.proofs.Linked.{index_in}
 
 -- an operation that names values of the graph alone names no copies
@@ -123,6 +123,12 @@ module _ (banks : List Bank) where
   op_whole n (Text k) h = refl
   op_whole n (Decimal x) h = ap Decimal (operand_whole x h)
   op_whole n (Across v u) h = absurd (cc)
+  op_whole n (Base v a x) h = ap (λ w. Base w a x) (general_whole v (and_parts (is_general banks v) (nat_lt a n) h).0)
+  op_whole n (PlaceIn v a u i) h =
+      let x = and_parts (is_general banks v && nat_lt a n && is_general banks u) (is_operand banks i) h in
+      let y = and_parts (is_general banks v && nat_lt a n) (is_general banks u) x.0 in
+      let z = and_parts (is_general banks v) (nat_lt a n) y.0 in
+      ap (λ w. PlaceIn w a (whole N u) (whole_operand N i)) (general_whole v z.0) ∙ ap (λ w. PlaceIn v a w (whole_operand N i)) (general_whole u y.1) ∙ ap (PlaceIn v a u) (operand_whole i x.1)
 
 -- an exit is one of the graph
 exit_comes : (graph : Graph) (x : Exit) → HasExit graph x → ExitComesFrom graph x
@@ -138,12 +144,9 @@ module _ (graph : Graph) (m : MixedGraph) (sound : is_sound graph ≡ true) (is 
 
   op_sound : (op : Op) → HasOperation graph op → is_sound_operation graph.banks (length graph.arrays) op ≡ true
   op_sound op h =
-      let blocks = (and_parts (list_all (is_general graph.banks) graph.parameters) (list_all (is_sound_block graph) graph.blocks) sound).1 in
-      let s = all_in (is_sound_block graph) graph.blocks h.block blocks h.has in
+      let s = all_in (is_sound_block graph) graph.blocks h.block (sound_blocks graph sound) h.has in
       let ops = (and_parts (list_all (is_sound_in graph) h.block.ops) (is_sound_exit graph.banks (length graph.blocks) h.block.exit) s).0 in
-      let o = all_in (is_sound_in graph) h.block.ops op ops h.stands in
-      let z = and_parts (is_sound_operation graph.banks (length graph.arrays) op && is_kept graph op) (is_access_placed graph op) o in
-      (and_parts (is_sound_operation graph.banks (length graph.arrays) op) (is_kept graph op) z.0).0
+      sound_op graph op (all_in (is_sound_in graph) h.block.ops op ops h.stands)
 
   op_comes : (op : Op) → HasOperation graph op → ComesFrom graph op
   op_comes op h =

@@ -11,7 +11,7 @@ use Rattle.vx_flow.specs.declared.graph.Array.{Array}
 use Rattle.vx_flow.specs.declared.graph.Graph.{Graph}
 use Rattle.vx_flow.specs.declared.graph.Flow.{Flow}
 use Rattle.vx_flow.specs.Effects.{Content, State}
-use Rattle.vx_flow.specs.Meaning.{Hop, Arrives, Program, Frame, Active, deepest, setting_with, at_entry, undefined, enters, with_result, returned, waits, after_hop, body_hop, next, globals_at_start, entered_or, at_start}
+use Rattle.vx_flow.specs.Meaning.{Hop, Arrives, Body, Program, Frame, Active, deepest, setting_with, at_entry, undefined, spots_held, spots_for, enters_with, enters, bases_in, words_in, with_result, returned, waits, after_hop, body_hop, next, globals_at_start, entered_or, at_start}
 use Rattle.vx_mixed.specs.declared.region.Item.{Item}
 use Rattle.vx_mixed.specs.declared.layout.VirtualWord.TheVariants.{Transfer}
 use Rattle.vx_mixed.specs.declared.layout.VWords.{VWords}
@@ -155,7 +155,7 @@ module _ (flow : Flow) (times : List ℕ) (latency : Op → ℕ) (room : List (O
         by (Some graph) (Some m) (Some l) ea eb ec x y = inr (record { graph = graph; mixed = m; laid = l; in_flow = ea; in_mixed = eb; in_laid = ec; laid_out = y; parameters = x.0; arrays = x.1 })
 
     abbrev own : List Array → List ℕ
-    own arrays = map (λ (a : Array). a.words) (drop G arrays)
+    own arrays = words_in (drop G arrays)
 
     abbrev begun : List ℕ → List Array → List ℤ → State → State
     begun parameters arrays args s = record s { values = at_entry parameters args; arrays = s.arrays ++ map undefined (own arrays) }
@@ -168,21 +168,35 @@ module _ (flow : Flow) (times : List ℕ) (latency : Op → ℕ) (room : List (O
         next A n ≡ enters g (A.body g) args s (w ∷ ws) → next B m ≡ enters g (B.body g) args s (u ∷ us) → (slice_get ms g ≡ None) ⊎ There g → MeetsHere n m
     enter_step n m g args w u s ws us stack safe e d (inl gone) = failed n m s.out (e ∙ ap (λ o. enters g (option_map (body_of G times latency) o) args s (w ∷ ws)) gone) safe
     enter_step n m g args w u s ws us stack safe e d (inr x) =
-        let n' : Active = record { function = g; block = 0; passed = []; base = length s.arrays; state = begun x.mixed.parameters x.mixed.arrays args s; waiting = w ∷ ws } in
-        let m' : Active = record { function = g; block = 0; passed = []; base = length s.arrays; state = begun x.graph.parameters x.graph.arrays args s; waiting = u ∷ us } in
-        let to_a : next A n ≡ On n' = e ∙ ap (λ o. enters g (option_map (body_of G times latency) o) args s (w ∷ ws)) x.in_mixed in
-        let to_b : next B m ≡ On m' = d ∙ ap (λ o. enters g (laid_body G o (slice_get ls g)) args s (u ∷ us)) x.in_flow ∙ ap (λ o. enters g (laid_body G (Some x.graph) o) args s (u ∷ us)) x.in_laid in
-        again n n' m m' m' to_a to_b 0 refl safe (λ later. record {
-          block = 0;
-          waiting = u ∷ us;
-          is = ap (λ z. entry z) (same_entry g x args s);
-          near = subst (λ o. Near o 0 0) (sym x.in_mixed) (inr (refl, refl));
-          stack = stack;
-          safe = later;
-        })
+        by (spots_for mixed args s)
+        (e ∙ ap (λ o. enters g (option_map (body_of G times latency) o) args s (w ∷ ws)) x.in_mixed)
+        (d ∙ ap (λ o. enters g (laid_body G o (slice_get ls g)) args s (u ∷ us)) x.in_flow ∙ ap (λ o. enters g (laid_body G (Some x.graph) o) args s (u ∷ us)) x.in_laid ∙ ap (enters_with g laid args s (u ∷ us)) spots_same)
       where
-        entry : State → Active
-        entry z = record { function = g; block = 0; passed = []; base = length s.arrays; state = z; waiting = u ∷ us }
+        mixed : Option Body
+        mixed = Some (body_of G times latency x.mixed)
+
+        laid : Option Body
+        laid = laid_body G (Some x.graph) (Some x.laid)
+
+        spots_same : spots_for laid args s ≡ spots_for mixed args s
+        spots_same = λ i. spots_held (length s.arrays) (at_entry (sym x.parameters i) args) (bases_in (drop G (sym x.arrays i)))
+
+        entry : List (Option ℕ) → State → Active
+        entry passed z = record { function = g; block = 0; passed = passed; base = length s.arrays; state = z; waiting = u ∷ us }
+
+        by : (spots : Option (List (Option ℕ))) → next A n ≡ enters_with g mixed args s (w ∷ ws) spots → next B m ≡ enters_with g laid args s (u ∷ us) spots → MeetsHere n m
+        by None a b = failed n m s.out a safe
+        by (Some passed) a b =
+            let n' : Active = record { function = g; block = 0; passed = passed; base = length s.arrays; state = begun x.mixed.parameters x.mixed.arrays args s; waiting = w ∷ ws } in
+            let m' : Active = entry passed (begun x.graph.parameters x.graph.arrays args s) in
+            again n n' m m' m' a b 0 refl safe (λ later. record {
+              block = 0;
+              waiting = u ∷ us;
+              is = ap (entry passed) (same_entry g x args s);
+              near = subst (λ o. Near o 0 0) (sym x.in_mixed) (inr (refl, refl));
+              stack = stack;
+              safe = later;
+            })
 
     call_step : (deep deep' : Bool) (n m : Active) (g : ℕ) (args : List ℤ) (w u : Frame) (s : State) (ws us : List Frame) → deep' ≡ deep → TiedStack (w ∷ ws) (u ∷ us) → NeverFails (λ k. run (next A) out k n) →
         next A n ≡ (if deep then Over (Traps Depth s.out) else enters g (A.body g) args s (w ∷ ws)) → next B m ≡ (if deep' then Over (Traps Depth s.out) else enters g (B.body g) args s (u ∷ us)) → MeetsHere n m

@@ -5,7 +5,7 @@ use Rattle.vx_base.specs.Outcome.{Outcome}
 use Rattle.vx_flow.specs.declared.graph.Graph.{Graph}
 use Rattle.vx_flow.specs.declared.graph.Flow.{Flow}
 use Rattle.vx_flow.specs.Effects.{State, Setting, held, effect}
-use Rattle.vx_flow.specs.Meaning.{Hop, Arrives, Stops, Wrong, known, by_test, calls, leaves, and_then, Body, Program, own_of, at_start, globals_at_start, program_run}
+use Rattle.vx_flow.specs.Meaning.{Hop, Arrives, Stops, Wrong, known, by_test, calls, leaves, and_then, Body, Program, bases_of, own_of, at_start, globals_at_start, program_run}
 use Rattle.vx_mixed.specs.declared.layout.Laid.{Laid}
 use Rattle.vx_mixed.specs.declared.layout.Laid.TheVariants.{Plain, Split}
 use Rattle.vx_mixed.specs.declared.layout.VirtualWord.{VirtualWord}
@@ -57,7 +57,7 @@ laid_hop setting l (suc p) s = some_word_hop setting p (slice_get l.words p) s
 abbrev pub laid_body : (globals : ℕ) → Option Graph → Option VWords → Option Body
 laid_body globals None l = None
 laid_body globals (Some graph) None = None
-laid_body globals (Some graph) (Some l) = Some (record { parameters = graph.parameters; own = own_of globals graph; hop = λ setting b s. laid_hop setting l b s })
+laid_body globals (Some graph) (Some l) = Some (record { parameters = graph.parameters; bases = bases_of globals graph; own = own_of globals graph; hop = λ setting b s. laid_hop setting l b s })
 
 -- the program of a flow with these layouts in place of its graphs
 abbrev pub laid_program : Flow → List VWords → Program

@@ -1,19 +1,19 @@
 -- One word from two states that have the same arrays, input and output, and agree on what the word reads.
-use Rattle.std.proofs.Common.{◌≡◌, ℕ, ℤ, Bool, true, false, Option, Some, None, List, [], ◌∷◌, ◌++◌, cond, length, slice_index_or, slice_set, refl, sym, ap, ◌∙◌, subst, ⊎_elim, inl, inr}
+use Rattle.std.proofs.Common.{◌≡◌, ℕ, ℤ, pos, Bool, true, false, Option, Some, None, List, [], ◌∷◌, ◌++◌, cond, length, slice_index_or, slice_set, refl, sym, ap, ◌∙◌, subst, ⊎_elim, inl, inr}
 use Rattle.std.specs.Prelude.{◌⊎◌}
 use Rattle.std.proofs.lemmas.Bool.{cases_eq, eq-eqb, ne_eqb}
 use Rattle.std.specs.Fmt.{signed_decimal}
 use Rattle.vx_base.specs.Arithmetic.{one_if}
 use Rattle.vx_flow.specs.Effects.{Content, State, Setting, text_at, held, cell_in, row_of, with_value, loaded, stored, next_input, printed, is_left, effect, value_in, reads, writes, IsIn}
 use Rattle.vx_flow.specs.declared.graph.Op.{Op}
-use Rattle.vx_flow.specs.declared.graph.Op.TheVariants.{Compute, Select, Place, Load, Store, More, Input, Text, Decimal, Across}
+use Rattle.vx_flow.specs.declared.graph.Op.TheVariants.{Compute, Select, Place, Load, Store, More, Input, Text, Decimal, Across, Base, PlaceIn}
 use Rattle.vx_flow.specs.declared.graph.Operand.{Operand}
 use Rattle.vx_mixed.specs.declared.region.Item.{Item}
 use Rattle.vx_mixed.specs.declared.region.Item.TheVariants.{Plain, Split}
 use Rattle.vx_mixed.specs.Meaning.{word_effect, into}
 use Rattle.vx_mixed.specs.Live.{word_reads, word_writes}
 use Rattle.vx_mixed.specs.Agree.{SameWorld}
-use Rattle.vx_mixed.proofs.Contents.{Grows, none_is, in_append, grows_held, grows_computed, grows_chosen, grows_place, cell_from, left_read, right_read}
+use Rattle.vx_mixed.proofs.Contents.{Grows, none_is, in_append, grows_held, grows_computed, grows_chosen, grows_place, grows_place_by, cell_from, left_read, right_read}
 
 pub record Both (ws : List ℕ) (x y x' y' : State) : Type 0 where
   pub world : SameWorld x' y'
@@ -123,6 +123,9 @@ module _ (setting : Setting) (s t : State) (w : SameWorld s t) where
   op_follows (Text n) x y k e = record { world = record { arrays = e.arrays; input = e.input; out = ap (λ z. z ++ text_at setting n) w.out }; written = λ v h. absurd h; left = λ v h. refl; right = λ v h. refl }
   op_follows (Decimal p) x y k e = subst (λ z. Follow [] x y (printed x s.out (held s p)) (printed y z (held t p))) (sym w.out) (shows x y s.out _ _ e (operand p (value_in p) k (λ u r. r)))
   op_follows (Across v u) x y k e = value x y v _ _ e (k u (inl refl))
+  op_follows (Base v a b) x y k e = value x y v (Some (pos (setting.spot a))) (Some (pos (setting.spot a))) e (λ n q. q)
+  op_follows (PlaceIn v a b i) x y k e =
+      value x y v _ _ e (grows_place_by (s.values b) (t.values b) (held s i) (held t i) (k b (in_append b (value_in i) (b ∷ []) (inr (inl refl)))) (operand i (value_in i ++ b ∷ []) k (λ u r. in_append u (value_in i) (b ∷ []) (inl r))))
 
   -- after the first operation the rest
   chain : (us vs : List ℕ) (x y x1 y1 : State) (o p : Option State) → Both us x y x1 y1 → Follow vs x1 y1 o p → Follow (us ++ vs) x y o p

@@ -14,12 +14,12 @@ use Rattle.vx_flow.specs.declared.graph.Exit.{Exit}
 use Rattle.vx_flow.specs.declared.graph.Exit.TheVariants.{Goto, Split as Branches, Call, Return, Ends}
 use Rattle.vx_flow.specs.declared.graph.Graph.{Graph}
 use Rattle.vx_flow.specs.declared.graph.Op.{Op}
-use Rattle.vx_flow.specs.declared.graph.Op.TheVariants.{Compute, Select, Place, Load, Store, More, Input, Text, Decimal, Across}
+use Rattle.vx_flow.specs.declared.graph.Op.TheVariants.{Compute, Select, Place, Load, Store, More, Input, Text, Decimal, Across, Base, PlaceIn}
 use Rattle.vx_flow.specs.declared.graph.Operand.{Operand}
 use Rattle.vx_flow.specs.declared.graph.Operand.TheVariants.{Held, Number, Stack}
 use Rattle.vx_flow.specs.Effects.{IsIn, is_unary, value_in, reads}
 use Rattle.vx_flow.specs.Live.{reads_of_exit}
-use Rattle.vx_flow.specs.Sound.{is_bank, is_general, is_branch, is_operand, is_right, is_written, is_sound_operation, is_sound_exit, is_sound_in, is_sound_block, is_sound, is_kept, is_access_placed, is_general_or_none}
+use Rattle.vx_flow.specs.Sound.{is_bank, is_general, is_branch, is_operand, is_right, is_written, is_sound_operation, is_sound_exit, is_sound_in, is_sound_block, is_sound, is_based, is_kept, is_access_placed, is_array_kept, is_general_or_none}
 use Rattle.vx_flow.proofs.Members.{in_either}
 use Rattle.vx_mixed.specs.declared.region.Node.TheVariants.{Unused, Enters}
 use Rattle.vx_mixed.specs.declared.region.Region.{Region}
@@ -74,6 +74,10 @@ module _ (banks : List Bank) where
   branch_below p h v (inl e) = subst (λ z. z < length banks) (sym e) (bank_below banks p Branch h)
   branch_below p h v (inr q) = absurd q
 
+  general_below : (u : ℕ) → is_general banks u ≡ true → Below (u ∷ [])
+  general_below u h v (inl e) = subst (λ z. z < length banks) (sym e) (bank_below banks u General h)
+  general_below u h v (inr q) = absurd q
+
   pub op_below : (arrays : ℕ) (op : Op) → is_sound_operation banks arrays op ≡ true → Below (reads op)
   op_below n (Compute code v a b) h =
       let x = and_parts (is_written banks code v && is_operand banks a) (is_right banks code b) h in
@@ -95,6 +99,11 @@ module _ (banks : List Bank) where
   op_below n (Text k) h = λ u q. absurd q
   op_below n (Decimal x) h = operand_below x h
   op_below n (Across v u) h = absurd (cc)
+  op_below n (Base v a x) h = λ u q. absurd q
+  op_below n (PlaceIn v a u i) h =
+      let x = and_parts (is_general banks v && nat_lt a n && is_general banks u) (is_operand banks i) h in
+      let y = and_parts (is_general banks v && nat_lt a n) (is_general banks u) x.0 in
+      both_below (value_in i) (u ∷ []) (operand_below i x.1) (general_below u y.1)
 
   operands_below : (xs : List Operand) → list_all (is_operand banks) xs ≡ true → Below (flat_map value_in xs)
   operands_below [] h = λ v q. absurd q
@@ -113,14 +122,25 @@ all_in p [] x h q = absurd q
 all_in p (y ∷ ys) x h (inl e) = ap p e ∙ (and_parts (p y) (list_all p ys) h).0
 all_in p (y ∷ ys) x h (inr q) = all_in p ys x (and_parts (p y) (list_all p ys) h).1 q
 
+-- of the tests of an operation the first one, and of those of a graph that of its blocks
+
+pub sound_op : (graph : Graph) (op : Op) → is_sound_in graph op ≡ true → is_sound_operation graph.banks (length graph.arrays) op ≡ true
+sound_op graph op h =
+    let x = and_parts (is_sound_operation graph.banks (length graph.arrays) op && is_based graph.arrays op && is_kept graph op) (is_access_placed graph op) h in
+    let y = and_parts (is_sound_operation graph.banks (length graph.arrays) op && is_based graph.arrays op) (is_kept graph op) x.0 in
+    (and_parts (is_sound_operation graph.banks (length graph.arrays) op) (is_based graph.arrays op) y.0).0
+
+pub sound_blocks : (graph : Graph) → is_sound graph ≡ true → list_all (is_sound_block graph) graph.blocks ≡ true
+sound_blocks graph h =
+    let x = and_parts (list_all (is_general graph.banks) graph.parameters && list_all (is_sound_block graph) graph.blocks) (list_all (is_array_kept graph) graph.arrays) h in
+    (and_parts (list_all (is_general graph.banks) graph.parameters) (list_all (is_sound_block graph) graph.blocks) x.0).1
+
 -- what a block of the graph reads first is a value of it
 block_below : (graph : Graph) (ops : List Op) (x : Exit) → list_all (is_sound_in graph) ops ≡ true → is_sound_exit graph.banks (length graph.blocks) x ≡ true → (v : ℕ) → ReadsFirst (map single ops) x v → v < length graph.banks
 block_below graph [] x all last v h = exit_below graph.banks (length graph.blocks) x last v h
 block_below graph (op ∷ ops) x all last v h =
     let y = and_parts (is_sound_in graph op) (list_all (is_sound_in graph) ops) all in
-    let z = and_parts (is_sound_operation graph.banks (length graph.arrays) op && is_kept graph op) (is_access_placed graph op) y.0 in
-    let w = and_parts (is_sound_operation graph.banks (length graph.arrays) op) (is_kept graph op) z.0 in
-    ⊎_elim (λ a. op_below graph.banks (length graph.arrays) op w.0 v (in_whole v (reads op) a)) (λ a. block_below graph ops x y.1 last v a.1) h
+    ⊎_elim (λ a. op_below graph.banks (length graph.arrays) op (sound_op graph op y.0) v (in_whole v (reads op) a)) (λ a. block_below graph ops x y.1 last v a.1) h
 
 pub get_in : {A : Type 0} (p : A → Bool) (xs : List A) (i : ℕ) (x : A) → list_all p xs ≡ true → slice_get xs i ≡ Some x → p x ≡ true
 get_in p [] i x h e = absurd (cc)
@@ -142,7 +162,7 @@ module _ (graph : Graph) (m : MixedGraph) (sound : is_sound graph ≡ true) (is 
   passage_below : (b v : ℕ) (p : Passage) → IsPassage m b p → ReadsFirst p.words p.exit v → v < length graph.banks
   passage_below b v p (through_block {block = k} e) h =
       let there : slice_get graph.blocks b ≡ Some k = is_block (slice_get graph.blocks b) k (sym (node_is b) ∙ e) in
-      let s : is_sound_block graph k ≡ true = get_in (is_sound_block graph) graph.blocks b k (and_parts (list_all (is_general graph.banks) graph.parameters) (list_all (is_sound_block graph) graph.blocks) sound).1 there in
+      let s : is_sound_block graph k ≡ true = get_in (is_sound_block graph) graph.blocks b k (sound_blocks graph sound) there in
       let y = and_parts (list_all (is_sound_in graph) k.ops) (is_sound_exit graph.banks (length graph.blocks) k.exit) s in
       block_below graph k.ops k.exit y.0 y.1 v h
   passage_below b v p (by_split {r = r} w j q d e y word node reg le at sp) h = absurd (no_entry (slice_get graph.blocks b) r w (sym (node_is b) ∙ node))

@@ -4,7 +4,7 @@ use Rattle.std.specs.Prelude.{◌⊎◌, if◌then◌else◌}
 use Rattle.vx_base.specs.Arithmetic.{value_of}
 use Rattle.vx_base.specs.declared.arithmetic.Code.{Code}
 use Rattle.vx_flow.specs.declared.graph.Op.TheVariants.{Compute}
-use Rattle.vx_flow.specs.Effects.{reads, Content, State, is_unary, computed, is_one, place_of, both, held, chosen, cell_in, value_in, IsIn}
+use Rattle.vx_flow.specs.Effects.{reads, Content, State, is_unary, computed, is_one, place_of, place_by, both, held, chosen, cell_in, value_in, IsIn}
 use Rattle.vx_flow.specs.declared.graph.Operand.{Operand}
 use Rattle.vx_flow.specs.declared.graph.Operand.TheVariants.{Held, Number, Stack}
 use Rattle.vx_mixed.specs.Agree.{SameShape}
@@ -50,6 +50,10 @@ grows_chosen (Some z) x y p' x' y' f g h n e = ap (λ q. chosen q x' y') (f z re
 pub grows_place : (x y : Content) → Grows x y → Grows (place_of x) (place_of y)
 grows_place None y g n e = none_is e
 grows_place (Some i) y g n e = ap place_of (g i refl) ∙ e
+
+pub grows_place_by : (b c x y : Content) → Grows b c → Grows x y → Grows (place_by b x) (place_by c y)
+grows_place_by None c x y h g n e = none_is e
+grows_place_by (Some k) c x y h g n e = ap (λ z. place_by z y) (h k refl) ∙ grows_place x y g n e
 
 pub same_shape : (s : State) → SameShape s s
 same_shape s = record { arrays = refl; rows = λ a. refl }

@@ -7,7 +7,7 @@ use Rattle.vx_base.specs.Timed.{asked_by, delayed}
 use Rattle.vx_base.specs.Outcome.{Begins}
 use Rattle.vx_base.proofs.Same.{begins_self, begins_on}
 use Rattle.vx_flow.specs.declared.graph.Op.{Op}
-use Rattle.vx_flow.specs.declared.graph.Op.TheVariants.{Compute, Select, Place, Load, Store, More, Input, Text, Decimal, Across}
+use Rattle.vx_flow.specs.declared.graph.Op.TheVariants.{Compute, Select, Place, Load, Store, More, Input, Text, Decimal, Across, Base, PlaceIn}
 use Rattle.vx_flow.specs.declared.graph.Exit.{Exit}
 use Rattle.vx_flow.specs.declared.graph.Exit.TheVariants.{Goto, Split as Branch, Call, Return, Ends}
 use Rattle.vx_flow.specs.Effects.{Content, State, Setting, effect, is_one, loaded, stored, next_input, printed, held, cell_of, row_of, text_at}
@@ -70,6 +70,8 @@ module _ (xs : List ℕ) (n : ℕ) where
   effect_grows setting s (Text m) t k h = begins_on xs s.out _ k (record { rest = text_at setting m; is = refl })
   effect_grows setting s (Decimal x) t k h = printed_grows s t (held s x) k
   effect_grows setting s (Across v u) t k h = h
+  effect_grows setting s (Base v a x) t k h = h
+  effect_grows setting s (PlaceIn v a u i) t k h = h
 
   pub both_parts : (t : State) (o : Option State) → Grown xs o → Kept t o → length t.arrays ≡ n → GoodOr xs n o
   both_parts t None g k e = tt

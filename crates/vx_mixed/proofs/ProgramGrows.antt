@@ -6,7 +6,7 @@ use Rattle.vx_base.specs.declared.outcome.Trap.TheVariants.{Depth}
 use Rattle.vx_base.proofs.Runs.{Grows}
 use Rattle.vx_base.proofs.Same.{begins_self}
 use Rattle.vx_flow.specs.Effects.{State}
-use Rattle.vx_flow.specs.Meaning.{Hop, Arrives, Calls, Leaves, Stops, Wrong, Body, Program, Frame, Active, deepest, enters, returned, waits, after_hop, hop as active_hop, next}
+use Rattle.vx_flow.specs.Meaning.{Hop, Arrives, Calls, Leaves, Stops, Wrong, Body, Program, Frame, Active, deepest, spots_for, enters_with, enters, returned, waits, after_hop, hop as active_hop, next}
 use Rattle.vx_mixed.proofs.Keeps.{HopGood}
 
 module _ (P : Program) (good : (r : Active) → HopGood r.state.out (length r.state.arrays) (active_hop P r)) where
@@ -16,7 +16,11 @@ module _ (P : Program) (good : (r : Active) → HopGood r.state.out (length r.st
 
   enters_grown : (xs : List ℕ) (g : ℕ) (o : Option Body) (args : List ℤ) (s : State) (fs : List Frame) → Begins xs s.out → StepGrown xs (enters g o args s fs)
   enters_grown xs g None args s fs k = k
-  enters_grown xs g (Some body) args s fs k = k
+  enters_grown xs g (Some body) args s fs k = by (spots_for (Some body) args s)
+    where
+      by : (spots : Option (List (Option ℕ))) → StepGrown xs (enters_with g (Some body) args s fs spots)
+      by None = k
+      by (Some passed) = k
 
   returned_grown : (xs : List ℕ) (n : ℤ) (s : State) (base : ℕ) (fs : List Frame) → Begins xs s.out → StepGrown xs (returned n s base fs)
   returned_grown xs n s base [] k = k

@@ -4,7 +4,7 @@ use Rattle.std.proofs.lemmas.Bool.{cases_eq, cases_lt}
 use Rattle.std.proofs.lemmas.List.{get_or-set_same, get_or-set_other, set_past}
 use Rattle.vx_flow.specs.Effects.{Content, State, Setting, held, cell_in, row_of, with_value, with_cell, loaded, stored, next_input, printed, effect}
 use Rattle.vx_flow.specs.declared.graph.Op.{Op}
-use Rattle.vx_flow.specs.declared.graph.Op.TheVariants.{Compute, Select, Place, Load, Store, More, Input, Text, Decimal, Across}
+use Rattle.vx_flow.specs.declared.graph.Op.TheVariants.{Compute, Select, Place, Load, Store, More, Input, Text, Decimal, Across, Base, PlaceIn}
 use Rattle.vx_mixed.specs.declared.region.Item.{Item}
 use Rattle.vx_mixed.specs.declared.region.Item.TheVariants.{Plain, Split}
 use Rattle.vx_mixed.specs.Meaning.{word_effect, into}
@@ -63,6 +63,8 @@ effect_kept setting σ u (Decimal x) = by (held σ x)
     by None = tt
     by (Some n) = record { arrays = refl; rows = λ a. refl }
 effect_kept setting σ u (Across v w) = value_kept u v _
+effect_kept setting σ u (Base v a x) = value_kept u v _
+effect_kept setting σ u (PlaceIn v a w i) = value_kept u v _
 
 pub word_kept : (setting : Setting) (σ u : State) (is : List Item) → Kept u (word_effect setting σ is u)
 word_kept setting σ u [] = same_shape u

@@ -3,7 +3,7 @@ use Rattle.std.proofs.Common.{◌≡◌, ℕ, zero, suc, ◌<◌, ℤ, Bool, tru
 use Rattle.std.specs.Prelude.{◌⊎◌, slice_get, cond, not, if◌then◌else◌}
 use Rattle.vx_flow.specs.Effects.{Content, State, Setting, IsIn, is_one, without_meaning, effect, held, cell_in, row_of, loaded, dismissed, state_or}
 use Rattle.vx_flow.specs.declared.graph.Op.{Op}
-use Rattle.vx_flow.specs.declared.graph.Op.TheVariants.{Compute, Select, Place, Load, Store, More, Input, Text, Decimal, Across}
+use Rattle.vx_flow.specs.declared.graph.Op.TheVariants.{Compute, Select, Place, Load, Store, More, Input, Text, Decimal, Across, Base, PlaceIn}
 use Rattle.vx_flow.specs.declared.graph.Exit.{Exit}
 use Rattle.vx_flow.specs.declared.graph.Exit.TheVariants.{Goto, Split as Branch, Call, Return, Ends}
 use Rattle.vx_mixed.specs.declared.region.Item.{Item}
@@ -155,6 +155,8 @@ free_effect setting s t (Input v) e = e
 free_effect setting s t (Text n) e = e
 free_effect setting s t (Decimal x) e = e
 free_effect setting s t (Across v u) e = e
+free_effect setting s t (Base v a x) e = e
+free_effect setting s t (PlaceIn v a u i) e = e
 
 -- where the trace leaves: not at all, by its first split that leaves, or at its end
 pub how_it_ends : (setting : Setting) (is : List Item) (l : ℕ) (x : Exit) (s : State) (h : Hop) → trace_hop setting is l x s ≡ h → (h ≡ Wrong) ⊎ (((e : ℕ) × LeavesAt setting is s h e) ⊎ RunsOut setting is s h l x)

@@ -1,22 +1,33 @@
 -- Graphs replaced one after the other.
-use Rattle.std.proofs.Common.{◌≢◌, ℕ, zero, suc, ℤ, Option, Some, None, List, [], ◌∷◌, slice_get, refl}
+use Rattle.std.proofs.Common.{◌≡◌, ◌≢◌, ℕ, zero, suc, ℤ, Option, Some, None, List, [], ◌∷◌, length, slice_get, refl, sym, subst}
 use Rattle.vx_base.proofs.Same.{same_self, same_on}
 use Rattle.vx_flow.specs.declared.graph.Op.{Op}
 use Rattle.vx_flow.specs.declared.graph.Flow.{Flow}
+use Rattle.vx_flow.specs.Apart.{GlobalsFirst}
 use Rattle.vx_mixed.specs.declared.mixed.MixedGraph.{MixedGraph}
 use Rattle.vx_mixed.specs.Program.{mixed_run}
-use Rattle.vx_motion.specs.Context.{Becomes, Remains, Both, AllBecome, SameRuns, Chain, Done, Then, ChainLaw, Steps, Stays, Goes, AllStep, StepsLaw}
-use Rattle.vx_motion.proofs.Context.{in_context}
+use Rattle.vx_motion.specs.Context.{Becomes, Remains, Both, AllBecome, HaveGlobalsFirst, SameRuns, Chain, Done, Then, ChainLaw, Steps, Stays, Goes, AllStep, StepsLaw}
+use Rattle.vx_motion.proofs.Context.{arrays_stay, in_context}
 
-chained : (flow : Flow) (times : List ℕ) (latency : Op → ℕ) (ms ns : List MixedGraph) (input : List ℤ) → times ≢ [] → Chain latency ms ns → SameRuns flow times latency ms ns input
-chained flow times latency ms ns input some (Done {ms = first_ones}) safe = (same_self (mixed_run flow times latency first_ones input), safe)
-chained flow times latency ms ns input some (Then {ms = first_ones} {ns = bs} {os = cs} one rest) safe =
-    let here = in_context flow times latency first_ones bs input some one safe in
-    let more = chained flow times latency bs cs input some rest here.1 in
+-- the arrays stay
+first_on : (globals : ℕ) (latency : Op → ℕ) (o p : Option MixedGraph) → Both latency o p → ((m : MixedGraph) → o ≡ Some m → GlobalsFirst globals m.arrays) → (n : MixedGraph) → p ≡ Some n → GlobalsFirst globals n.arrays
+first_on globals latency None None l f n e = absurd (cc)
+first_on globals latency None (Some y) l f n e = absurd l
+first_on globals latency (Some x) None l f n e = absurd l
+first_on globals latency (Some x) (Some y) l f n e =
+    let q : y ≡ n = cc in
+    subst (λ (z : MixedGraph). GlobalsFirst globals z.arrays) q (subst (GlobalsFirst globals) (sym (arrays_stay latency x y l)) (f x refl))
+
+chained : (flow : Flow) (times : List ℕ) (latency : Op → ℕ) (ms ns : List MixedGraph) (input : List ℤ) → times ≢ [] → HaveGlobalsFirst (length flow.globals) ms → Chain latency ms ns → SameRuns flow times latency ms ns input
+chained flow times latency ms ns input some first (Done {ms = first_ones}) safe = (same_self (mixed_run flow times latency first_ones input), safe)
+chained flow times latency ms ns input some first (Then {ms = first_ones} {ns = bs} {os = cs} one rest) safe =
+    let here = in_context flow times latency first_ones bs input some first one safe in
+    let next : HaveGlobalsFirst (length flow.globals) bs = λ f n e. first_on (length flow.globals) latency (slice_get first_ones f) (slice_get bs f) (one f) (first f) n e in
+    let more = chained flow times latency bs cs input some next rest here.1 in
     (same_on (mixed_run flow times latency first_ones input) (mixed_run flow times latency bs input) (mixed_run flow times latency cs input) here.0 more.0, more.1)
 
 pub chain_law : ChainLaw
-chain_law flow times latency ms ns input some chain = chained flow times latency ms ns input some chain
+chain_law flow times latency ms ns input some first chain = chained flow times latency ms ns input some first chain
 
 -- Each function by itself
 
@@ -53,4 +64,4 @@ module _ (latency : Op → ℕ) where
   all_chain (m ∷ ms) (n ∷ ns) each = one_after_other (m ∷ ms) (n ∷ ms) (n ∷ ns) (first_steps m n ms (each 0)) (others_chain n ms ns (all_chain ms ns (λ f. each (suc f))))
 
 pub steps_law : StepsLaw
-steps_law flow times latency ms ms' input some each = chained flow times latency ms ms' input some (all_chain latency ms ms' each)
+steps_law flow times latency ms ms' input some first each = chained flow times latency ms ms' input some first (all_chain latency ms ms' each)

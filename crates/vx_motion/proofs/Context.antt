@@ -13,14 +13,15 @@ use Rattle.vx_flow.specs.declared.graph.Array.{Array}
 use Rattle.vx_flow.specs.declared.graph.Flow.{Flow}
 use Rattle.vx_flow.specs.Effects.{Content, State}
 use Rattle.vx_flow.specs.Apart.{StandApart}
-use Rattle.vx_flow.specs.Meaning.{Hop, Arrives, Calls, Leaves, Stops, Wrong, Program, Frame, Active, deepest, spot_in, setting_with, at_entry, undefined, entered, enters, with_result, returned, waits, after_hop, body_hop, next, words_at_start, globals_at_start, entered_or, at_start}
+use Rattle.vx_flow.specs.Meaning.{Hop, Arrives, Calls, Leaves, Stops, Wrong, Body, Program, Frame, Active, deepest, spot_in, setting_with, at_entry, undefined, entered, spots_held, spots_for, enters_with, enters, bases_in, words_in, with_result, returned, waits, after_hop, body_hop, next, words_at_start, globals_at_start, entered_or, at_start}
 use Rattle.vx_flow.proofs.Apart.{spots_apart}
+use Rattle.vx_flow.proofs.Entering.{entered_apart}
 use Rattle.vx_mixed.specs.declared.mixed.MixedGraph.{MixedGraph}
 use Rattle.vx_mixed.specs.Meaning.{hop}
 use Rattle.vx_mixed.specs.Live.{Live}
 use Rattle.vx_mixed.specs.Agree.{Segment, SameWorld, Agree, Alike, SameMeaning, not_the_result}
 use Rattle.vx_mixed.specs.Program.{body_of}
-use Rattle.vx_motion.specs.Context.{Becomes, Remains, Changes, Both, AllBecome, SameRuns, InContext}
+use Rattle.vx_motion.specs.Context.{Becomes, Remains, Changes, Both, AllBecome, HaveGlobalsFirst, SameRuns, InContext}
 use Rattle.vx_mixed.proofs.Keeps.{HopGood, hop_good}
 use Rattle.vx_mixed.proofs.GraphGrows.{P, grows, inside, moved}
 
@@ -108,7 +109,15 @@ length_mapped : {A B : Type 0} → (f : A → B) (xs : List A) → length (map f
 length_mapped f [] = refl
 length_mapped f (x ∷ xs) = ap suc (length_mapped f xs)
 
-module _ (flow : Flow) (times : List ℕ) (latency : Op → ℕ) (some : times ≢ []) (ms ns : List MixedGraph) (each : AllBecome latency ms ns) where
+pub arrays_stay : (latency : Op → ℕ) (m m' : MixedGraph) → Becomes latency m m' → m'.arrays ≡ m.arrays
+arrays_stay latency m m' (Remains e) = ap (λ (x : MixedGraph). x.arrays) e
+arrays_stay latency m m' (Changes ps ars meet meet' pairs c) = ars
+
+parameters_stay : (latency : Op → ℕ) (m m' : MixedGraph) → Becomes latency m m' → m'.parameters ≡ m.parameters
+parameters_stay latency m m' (Remains e) = ap (λ (x : MixedGraph). x.parameters) e
+parameters_stay latency m m' (Changes ps ars meet meet' pairs c) = ps
+
+module _ (flow : Flow) (times : List ℕ) (latency : Op → ℕ) (some : times ≢ []) (ms ns : List MixedGraph) (first_ones : HaveGlobalsFirst (length flow.globals) ms) (each : AllBecome latency ms ns) where
   abbrev A : Program
   A = P flow times latency ms
 
@@ -244,11 +253,11 @@ module _ (flow : Flow) (times : List ℕ) (latency : Op → ℕ) (some : times �
   entry m args s = entered (body_of Globals times latency m) args s
 
   abbrev own : MixedGraph → List (List Content)
-  own m = map undefined (map (λ (a : Array). a.words) (drop Globals m.arrays))
+  own m = map undefined (words_in (drop Globals m.arrays))
 
   entry_world : (m m' : MixedGraph) (args : List ℤ) (s t : State) → m'.arrays ≡ m.arrays → SameWorld s t → SameWorld (entry m args s) (entry m' args t)
   entry_world m m' args s t e w = record {
-    arrays = ap (λ a. a ++ own m') w.arrays ∙ ap (λ x. s.arrays ++ map undefined (map (λ (a : Array). a.words) (drop Globals x))) e;
+    arrays = ap (λ a. a ++ own m') w.arrays ∙ ap (λ x. s.arrays ++ map undefined (words_in (drop Globals x))) e;
     input = w.input;
     out = w.out;
   }
@@ -262,27 +271,37 @@ module _ (flow : Flow) (times : List ℕ) (latency : Op → ℕ) (some : times �
       ((c.start, record { world = world; values = λ v n l e. subst (λ x. at_entry x args v ≡ Some n) (sym ps) e }), world)
 
   -- the function that is called is entered
-  enter_step : (n m : Active) (g : ℕ) (o o' : Option MixedGraph) (l : Both latency o o') (args : List ℤ) (w u : Frame) (s t : State) →
+  enter_step : (n m : Active) (g : ℕ) (o o' : Option MixedGraph) (l : Both latency o o') (args : List ℤ) (w u : Frame) (s t : State) → slice_get ms g ≡ o →
       ((s' t' : State) → NearIn latency o o' l 0 s' 0 t' → NearIn latency (slice_get ms g) (slice_get ns g) (each g) 0 s' 0 t') →
       TiedStack (length s.arrays) (w ∷ n.waiting) (u ∷ m.waiting) → Globals ≤ length s.arrays → NeverFails (λ k. run (next A) out k n) → SameWorld s t →
       next A n ≡ enters g (option_map (body_of Globals times latency) o) args s (w ∷ n.waiting) → next B m ≡ enters g (option_map (body_of Globals times latency) o') args t (u ∷ m.waiting) → MeetsHere n m
-  enter_step n m g None None l args w u s t near st lo safe world e d = failed n m s.out e safe
-  enter_step n m g None (Some m') l args w u s t near st lo safe world e d = absurd l
-  enter_step n m g (Some m1) None l args w u s t near st lo safe world e d = absurd l
-  enter_step n m g (Some m1) (Some m') l args w u s t near st lo safe world e d =
-      let start = entry_near m1 m' l args s t world in
-      again n _ m _ e d safe (λ later. record {
-        function = refl;
-        passed = refl;
-        base = ap length world.arrays;
-        near = near (entry m1 args s) (entry m' args t) start.0;
-        world = start.1;
-        stack = st;
-        low = lo;
-        far = far_all (slice_get ms g) (length s.arrays) lo;
-        high = length_both s.arrays (own m1);
-        safe = later;
-      })
+  enter_step n m g None None l args w u s t is near st lo safe world e d = failed n m s.out e safe
+  enter_step n m g None (Some m') l args w u s t is near st lo safe world e d = absurd l
+  enter_step n m g (Some m1) None l args w u s t is near st lo safe world e d = absurd l
+  enter_step n m g (Some m1) (Some m') l args w u s t is near st lo safe world e d = by (spots_for (body m1) args s) refl e (d ∙ ap (enters_with g (body m') args t (u ∷ m.waiting)) spots_same)
+    where
+      body : MixedGraph → Option Body
+      body x = Some (body_of Globals times latency x)
+
+      spots_same : spots_for (body m') args t ≡ spots_for (body m1) args s
+      spots_same = λ i. spots_held (length (world.arrays i)) (at_entry (parameters_stay latency m1 m' l i) args) (bases_in (drop Globals (arrays_stay latency m1 m' l i)))
+
+      by : (spots : Option (List (Option ℕ))) → spots_for (body m1) args s ≡ spots → next A n ≡ enters_with g (body m1) args s (w ∷ n.waiting) spots → next B m ≡ enters_with g (body m') args t (u ∷ m.waiting) spots → MeetsHere n m
+      by None q a b = failed n m s.out a safe
+      by (Some passed) q a b =
+          let start = entry_near m1 m' l args s t world in
+          again n _ m _ a b safe (λ later. record {
+            function = refl;
+            passed = refl;
+            base = ap length world.arrays;
+            near = near (entry m1 args s) (entry m' args t) start.0;
+            world = start.1;
+            stack = st;
+            low = lo;
+            far = subst (λ o. FarIn o passed (length s.arrays)) (sym is) (entered_apart Globals (length s.arrays) m1.arrays (at_entry m1.parameters args) passed (first_ones g m1 is) lo q);
+            high = length_both s.arrays (own m1);
+            safe = later;
+          })
 
   -- a call of one function too many traps in both
   call_step : (deep deep' : Bool) (n m : Active) (g : ℕ) (args : List ℤ) (w u : Frame) (s t : State) → deep' ≡ deep →
@@ -290,7 +309,7 @@ module _ (flow : Flow) (times : List ℕ) (latency : Op → ℕ) (some : times �
       next A n ≡ (if deep then Over (Traps Depth s.out) else enters g (A.body g) args s (w ∷ n.waiting)) → next B m ≡ (if deep' then Over (Traps Depth t.out) else enters g (B.body g) args t (u ∷ m.waiting)) → MeetsHere n m
   call_step true deep' n m g args w u s t q st lo safe world e d = ended n m (Traps Depth s.out) e (d ∙ ap (λ z. if z then Over (Traps Depth t.out) else enters g (B.body g) args t (u ∷ m.waiting)) q ∙ ap (λ o. Over (Traps Depth o)) world.out) tt
   call_step false deep' n m g args w u s t q st lo safe world e d =
-      enter_step n m g (slice_get ms g) (slice_get ns g) (each g) args w u s t (λ s' t' x. x) st lo safe world e (d ∙ ap (λ z. if z then Over (Traps Depth t.out) else enters g (B.body g) args t (u ∷ m.waiting)) q)
+      enter_step n m g (slice_get ms g) (slice_get ns g) (each g) args w u s t refl (λ s' t' x. x) st lo safe world e (d ∙ ap (λ z. if z then Over (Traps Depth t.out) else enters g (B.body g) args t (u ∷ m.waiting)) q)
 
   -- the last hop of a segment; behind it there are k arrays
   last_step : (n m : Active) → m.function ≡ n.function → m.passed ≡ n.passed → m.base ≡ n.base → TiedStack n.base n.waiting m.waiting → Globals ≤ n.base → FarIn (slice_get ms n.function) n.passed n.base → NeverFails (λ j. run (next A) out j n) → (xs : List ℕ) (k : ℕ) → n.base ≤ k → (h h' : Hop) → HopGood xs k h → next A n ≡ after_hop A n h → next B m ≡ after_hop B m h' →
@@ -462,4 +481,4 @@ module _ (flow : Flow) (times : List ℕ) (latency : Op → ℕ) (some : times �
       same_from_meeting (next A) out (next B) out Tied (grows flow times latency ms) (grows flow times latency ns) meets (λ n m t. sym t.world.out) (at_start A flow.main s) (at_start B flow.main s) tie
 
 pub in_context : InContext
-in_context flow times latency ms ns input some each = same_runs flow times latency some ms ns each input
+in_context flow times latency ms ns input some first each = same_runs flow times latency some ms ns first each input

@@ -2,7 +2,7 @@
 use Rattle.std.proofs.Common.{◌≡◌, ℕ, zero, suc, ◌<◌, ◌≤◌, Bool, true, false, Option, Some, None, List, [], ◌∷◌, length, refl, sym, ◌∙◌, subst, ⊎_elim, arith}
 use Rattle.std.specs.Prelude.{◌⊎◌}
 use Rattle.std.proofs.lemmas.Bool.{cases_lt}
-use Rattle.vx_flow.specs.declared.graph.Op.TheVariants.{Compute, Select, Place, Load, Store, More, Input, Text, Decimal, Across}
+use Rattle.vx_flow.specs.declared.graph.Op.TheVariants.{Compute, Select, Place, Load, Store, More, Input, Text, Decimal, Across, Base, PlaceIn}
 use Rattle.vx_flow.specs.Effects.{State, Setting, held, cell_in, cell_of, row_of, loaded, IsIn, Location, Of, Cell}
 use Rattle.vx_mixed.specs.declared.region.Item.{Item}
 use Rattle.vx_mixed.specs.declared.region.Item.TheVariants.{Plain, Split}
@@ -29,6 +29,8 @@ takes_no_value setting s (Plain (Input w) cluster) l v h e = cc
 takes_no_value setting s (Plain (Text n) cluster) l v h e = cc
 takes_no_value setting s (Plain (Decimal x) cluster) l v h e = cc
 takes_no_value setting s (Plain (Across w u) cluster) l v h e = h
+takes_no_value setting s (Plain (Base w a x) cluster) l v h e = h
+takes_no_value setting s (Plain (PlaceIn w a u i) cluster) l v h e = h
 takes_no_value setting s (Split p y edge d) l v h e = h
 
 pub gives_no_value : (setting : Setting) (s : State) (i : Item) (l : Location) (v : ℕ) → item_gives setting s i l → l ≡ Of v → ⊥
@@ -42,6 +44,8 @@ gives_no_value setting s (Plain (Input w) cluster) l v h e = cc
 gives_no_value setting s (Plain (Text n) cluster) l v h e = cc
 gives_no_value setting s (Plain (Decimal x) cluster) l v h e = cc
 gives_no_value setting s (Plain (Across w u) cluster) l v h e = h
+gives_no_value setting s (Plain (Base w a x) cluster) l v h e = h
+gives_no_value setting s (Plain (PlaceIn w a u i) cluster) l v h e = h
 gives_no_value setting s (Split p y edge d) l v h e = h
 
 pub gives_firm : (setting : Setting) (s : State) (i : Item) (l : Location) → item_gives setting s i l → IsFirm i
@@ -55,6 +59,8 @@ gives_firm setting s (Plain (Input w) cluster) l h = tt
 gives_firm setting s (Plain (Text n) cluster) l h = tt
 gives_firm setting s (Plain (Decimal x) cluster) l h = tt
 gives_firm setting s (Plain (Across w u) cluster) l h = h
+gives_firm setting s (Plain (Base w a x) cluster) l h = h
+gives_firm setting s (Plain (PlaceIn w a u i) cluster) l h = h
 gives_firm setting s (Split p y edge d) l h = h
 
 same_value : (l : Location) (v u : ℕ) → l ≡ Of v → l ≡ Of u → u ≡ v
@@ -129,6 +135,8 @@ harmless_is_safe setting s (Plain (Input v) cluster) h = absurd h
 harmless_is_safe setting s (Plain (Text n) cluster) h = (_, refl)
 harmless_is_safe setting s (Plain (Decimal x) cluster) h = absurd h
 harmless_is_safe setting s (Plain (Across v u) cluster) h = (_, refl)
+harmless_is_safe setting s (Plain (Base v a x) cluster) h = (_, refl)
+harmless_is_safe setting s (Plain (PlaceIn v a u i) cluster) h = (_, refl)
 harmless_is_safe setting s (Split p y edge d) h = (s, refl)
 
 pub passes_is_safe : (setting : Setting) (s : State) (i : Item) → Passes setting s i → Safe setting s i

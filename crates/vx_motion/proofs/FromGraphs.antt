@@ -1,5 +1,5 @@
 -- A mixed graph without regions means what its graph means.
-use Rattle.std.proofs.Common.{◌≡◌, ℕ, Option, Some, None, List, map, drop, length, slice_get, refl, ap, ◌∙◌}
+use Rattle.std.proofs.Common.{◌≡◌, ℕ, Option, Some, None, List, drop, length, slice_get, refl, ap, ◌∙◌}
 use Rattle.std.specs.Option.{option_map}
 use Rattle.std.proofs.Math.Path.{fun_ext}
 use Rattle.std.proofs.lemmas.Option.{slice_get-map}
@@ -8,7 +8,7 @@ use Rattle.vx_flow.specs.declared.graph.Block.{Block}
 use Rattle.vx_flow.specs.declared.graph.Array.{Array}
 use Rattle.vx_flow.specs.declared.graph.Graph.{Graph}
 use Rattle.vx_flow.specs.Effects.{State, Setting}
-use Rattle.vx_flow.specs.Meaning.{Hop, Body, Program, hop_of, program_run, at_start, globals_at_start, body_of as graph_body, program_of as graph_program}
+use Rattle.vx_flow.specs.Meaning.{Hop, Body, Program, bases_in, words_in, hop_of, program_run, at_start, globals_at_start, body_of as graph_body, program_of as graph_program}
 use Rattle.vx_mixed.specs.declared.region.Node.TheVariants.{Unused}
 use Rattle.vx_mixed.specs.declared.mixed.MixedGraph.{MixedGraph}
 use Rattle.vx_mixed.specs.Meaning.{node_hop, timed_from_start, hop}
@@ -27,15 +27,15 @@ means_the_graph graph m is setting times latency b s =
     ∙ block_is setting times latency m b s (slice_get graph.blocks b)
 
 module _ (globals : ℕ) (times : List ℕ) (latency : Op → ℕ) where
-  abbrev make : List ℕ → List ℕ → (Setting → ℕ → State → Hop) → Body
-  make parameters own go = record { parameters = parameters; own = own; hop = go }
+  abbrev make : List ℕ → List Array → (Setting → ℕ → State → Hop) → Body
+  make parameters arrays go = record { parameters = parameters; bases = bases_in arrays; own = words_in arrays; hop = go }
 
   same_body : (graph : Graph) (m : MixedGraph) → OfGraph graph m → body_of globals times latency m ≡ graph_body globals graph
   same_body graph m is =
       let go : Setting → ℕ → State → Hop = λ setting b s. hop setting times latency m b s in
-      ap (λ z. make z (map (λ (a : Array). a.words) (drop globals m.arrays)) go) is.parameters
-      ∙ ap (λ z. make graph.parameters (map (λ (a : Array). a.words) (drop globals z)) go) is.arrays
-      ∙ ap (make graph.parameters (map (λ (a : Array). a.words) (drop globals graph.arrays))) (fun_ext (λ setting. fun_ext (λ b. fun_ext (λ s. means_the_graph graph m is setting times latency b s))))
+      ap (λ z. make z (drop globals m.arrays) go) is.parameters
+      ∙ ap (λ z. make graph.parameters (drop globals z) go) is.arrays
+      ∙ ap (make graph.parameters (drop globals graph.arrays)) (fun_ext (λ setting. fun_ext (λ b. fun_ext (λ s. means_the_graph graph m is setting times latency b s))))
 
   same_option : (o : Option Graph) (p : Option MixedGraph) → EachOfGraph o p → option_map (body_of globals times latency) p ≡ option_map (graph_body globals) o
   same_option None None h = refl

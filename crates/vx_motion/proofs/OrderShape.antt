@@ -2,7 +2,7 @@
 use Rattle.std.proofs.Common.{◌≡◌, ℕ, zero, suc, Option, Some, None, List, [], ◌∷◌, length, refl, sym, ap, ◌∙◌, inl, inr}
 use Rattle.vx_flow.specs.Effects.{State, Setting, calm_effect, without_meaning, dismissed, cell_in, row_of, effect, IsCell, WritesAt, Location, Of, Cell, TheInput, TheOutput, at, state_or}
 use Rattle.vx_flow.specs.declared.graph.Op.{Op}
-use Rattle.vx_flow.specs.declared.graph.Op.TheVariants.{Compute, Select, Place, Load, Store, More, Input, Text, Decimal, Across}
+use Rattle.vx_flow.specs.declared.graph.Op.TheVariants.{Compute, Select, Place, Load, Store, More, Input, Text, Decimal, Across, Base, PlaceIn}
 use Rattle.vx_mixed.specs.declared.region.Item.{Item}
 use Rattle.vx_mixed.specs.declared.region.Item.TheVariants.{Plain, Split}
 use Rattle.vx_mixed.specs.Meaning.{word_effect}
@@ -37,6 +37,8 @@ without_kept (Input v) s = value_kept s v None
 without_kept (Text n) s = same_shape s
 without_kept (Decimal x) s = same_shape s
 without_kept (Across v u) s = same_shape s
+without_kept (Base v a x) s = same_shape s
+without_kept (PlaceIn v a u i) s = same_shape s
 
 pub calm_shape : (setting : Setting) (s : State) (i : Item) → SameShape s (calm setting s i)
 calm_shape setting s (Plain op cluster) = or_kept s (without_meaning op s) (effect setting s (dismissed op) s) (without_kept op s) (effect_kept setting s s (dismissed op))
@@ -81,6 +83,8 @@ calm_other setting s op l n = by (effect setting s (dismissed op) s) refl
     all_marked (Text n) = as_it_is
     all_marked (Decimal x) = as_it_is
     all_marked (Across v u) = as_it_is
+    all_marked (Base v a x) = as_it_is
+    all_marked (PlaceIn v a u i) = as_it_is
 
     without : (op : Op) → (WritesAt setting s op l → ⊥) → at (without_meaning op s) l ≡ at s l
     without (Compute c v a b) m = refl
@@ -93,6 +97,8 @@ calm_other setting s op l n = by (effect setting s (dismissed op) s) refl
     without (Text k) m = refl
     without (Decimal x) m = refl
     without (Across v u) m = refl
+    without (Base v a x) m = refl
+    without (PlaceIn v a u i) m = refl
 
     by : (o : Option State) → effect setting s (dismissed op) s ≡ o → at (state_or (without_meaning op s) o) l ≡ at s l
     by None e = without op n

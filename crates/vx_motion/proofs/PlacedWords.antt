@@ -5,7 +5,7 @@ use Rattle.std.specs.List.{filter, list_any}
 use Rattle.std.proofs.lemmas.Bool.{le-leb}
 use Rattle.vx_flow.specs.declared.graph.Edge.{Edge}
 use Rattle.vx_flow.specs.declared.graph.Op.{Op}
-use Rattle.vx_flow.specs.declared.graph.Op.TheVariants.{Compute, Select, Place, Load, Store, More, Input, Text, Decimal, Across}
+use Rattle.vx_flow.specs.declared.graph.Op.TheVariants.{Compute, Select, Place, Load, Store, More, Input, Text, Decimal, Across, Base, PlaceIn}
 use Rattle.vx_flow.specs.declared.graph.Operand.{Operand}
 use Rattle.vx_flow.specs.declared.trace.TraceOp.{TraceOp}
 use Rattle.vx_flow.specs.declared.trace.TraceOp.TheVariants.{Plain as TracePlain, Split as TraceSplit}
@@ -81,6 +81,8 @@ marked_freed true (Input v) c = as_it_is
 marked_freed true (Text k) c = as_it_is
 marked_freed true (Decimal x) c = as_it_is
 marked_freed true (Across v u) c = as_it_is
+marked_freed true (Base v a x) c = as_it_is
+marked_freed true (PlaceIn v a u i) c = as_it_is
 
 pub marked_at : (to : ℕ → ℕ → ℕ) (ops : List TraceOp) (cs ws ds above : List ℕ) → length cs ≡ length ops → length ws ≡ length ops → (k : ℕ) → Marked (nth (items_of ops cs) k) (nth (marks to ops cs ws ds above) k)
 marked_at to [] cs ws ds above e f k = as_it_is
@@ -109,6 +111,8 @@ dismissed_load (Input v) v' a' c c' p' d' e = absurd (cc)
 dismissed_load (Text k) v' a' c c' p' d' e = absurd (cc)
 dismissed_load (Decimal x) v' a' c c' p' d' e = absurd (cc)
 dismissed_load (Across v u) v' a' c c' p' d' e = absurd (cc)
+dismissed_load (Base v a x) v' a' c c' p' d' e = absurd (cc)
+dismissed_load (PlaceIn v a u i) v' a' c c' p' d' e = absurd (cc)
 
 -- the word of a split that stood above, or the one at place e
 abbrev Above : List TraceOp → (cs ws above : List ℕ) (other s k : ℕ) → Type 0

@@ -2,7 +2,7 @@
 use Rattle.std.proofs.Common.{◌≡◌, ℕ, zero, suc, ◌+◌, ◌-◌, ◌<◌, ◌≤◌, Bool, true, List, length, drop, refl, sym, ◌∙◌, subst, ⊎_elim, inl, inr, arith, length-drop}
 use Rattle.std.specs.Prelude.{◌⊎◌}
 use Rattle.std.proofs.lemmas.Bool.{cases_lt, cases_Bool}
-use Rattle.vx_flow.specs.declared.graph.Op.TheVariants.{Compute, Select, Place, Load, Store, More, Input, Text, Decimal, Across}
+use Rattle.vx_flow.specs.declared.graph.Op.TheVariants.{Compute, Select, Place, Load, Store, More, Input, Text, Decimal, Across, Base, PlaceIn}
 use Rattle.vx_flow.specs.declared.graph.Operand.{Operand}
 use Rattle.vx_flow.specs.Effects.{State, Setting, cell_of, IsIn, Location, Cell, TheInput, TheOutput}
 use Rattle.vx_mixed.specs.declared.region.Item.{Item}
@@ -30,6 +30,8 @@ gives_kind setting s (Plain (Input v) cluster) l h = inr (inl h, refl)
 gives_kind setting s (Plain (Text n) cluster) l h = inr (inr h, refl)
 gives_kind setting s (Plain (Decimal x) cluster) l h = inr (inr h, refl)
 gives_kind setting s (Plain (Across v u) cluster) l h = absurd h
+gives_kind setting s (Plain (Base v a x) cluster) l h = absurd h
+gives_kind setting s (Plain (PlaceIn v a u i) cluster) l h = absurd h
 gives_kind setting s (Split p y edge d) l h = absurd h
 
 takes_kind : (setting : Setting) (s : State) (i : Item) (l : Location) → item_takes setting s i l → ((a : ℕ) × (c : ℕ) × (l ≡ Cell a c) × IsLoad i) ⊎ (((l ≡ TheInput) ⊎ (l ≡ TheOutput)) × IsObservable i)
@@ -43,6 +45,8 @@ takes_kind setting s (Plain (Input v) cluster) l h = inr (inl h, refl)
 takes_kind setting s (Plain (Text n) cluster) l h = inr (inr h, refl)
 takes_kind setting s (Plain (Decimal x) cluster) l h = inr (inr h, refl)
 takes_kind setting s (Plain (Across v u) cluster) l h = absurd h
+takes_kind setting s (Plain (Base v a x) cluster) l h = absurd h
+takes_kind setting s (Plain (PlaceIn v a u i) cluster) l h = absurd h
 takes_kind setting s (Split p y edge d) l h = absurd h
 
 no_stream_cell : {A : Type 0} (l : Location) (a c : ℕ) → l ≡ Cell a c → ((l ≡ TheInput) ⊎ (l ≡ TheOutput)) → A
@@ -105,6 +109,8 @@ module _ (setting : Setting) (is : List Item) (latency : Item → ℕ) (live : �
       firm (Plain (Text n) cluster) h = inr refl
       firm (Plain (Decimal x) cluster) h = inr refl
       firm (Plain (Across v u) cluster) h = absurd h
+      firm (Plain (Base v a x) cluster) h = absurd h
+      firm (Plain (PlaceIn v a u i) cluster) h = absurd h
       firm (Split p y edge d) h = absurd h
 
   early : (e k : ℕ) → e < k → IsSplit (nth is e) → word k ≤ word e → Harmless (mark k)
@@ -121,6 +127,8 @@ module _ (setting : Setting) (is : List Item) (latency : Item → ℕ) (live : �
       by i i' (as_it_is {op = Text z}) n f = tt
       by i i' (as_it_is {op = Decimal x}) n f = n tt
       by i i' (as_it_is {op = Across v u}) n f = tt
+      by i i' (as_it_is {op = Base v a x}) n f = tt
+      by i i' (as_it_is {op = PlaceIn v a w x}) n f = tt
       by i i' dismissible n f = refl
       by i i' split n f = tt
 

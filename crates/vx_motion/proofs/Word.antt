@@ -3,7 +3,7 @@ use Rattle.std.proofs.Common.{◌≡◌, ℕ, suc, Option, Some, None, List, [],
 use Rattle.std.specs.Prelude.{◌⊎◌}
 use Rattle.std.proofs.lemmas.Bool.{cases_eq}
 use Rattle.vx_flow.specs.declared.graph.Op.{Op}
-use Rattle.vx_flow.specs.declared.graph.Op.TheVariants.{Compute, Select, Place, Load, Store, More, Input, Text, Decimal, Across}
+use Rattle.vx_flow.specs.declared.graph.Op.TheVariants.{Compute, Select, Place, Load, Store, More, Input, Text, Decimal, Across, Base, PlaceIn}
 use Rattle.vx_flow.specs.Effects.{State, Setting, cell_of, IsCell, WritesBesides, IsIn, Location, Of, Cell, TheInput, TheOutput, at}
 use Rattle.vx_mixed.specs.declared.region.Item.{Item}
 use Rattle.vx_mixed.specs.declared.region.Item.TheVariants.{Plain, Split}
@@ -60,6 +60,8 @@ gives_or setting s (Input v) l = loc_eq l TheInput
 gives_or setting s (Text n) l = loc_eq l TheOutput
 gives_or setting s (Decimal x) l = loc_eq l TheOutput
 gives_or setting s (Across v u) l = inr (λ h. h)
+gives_or setting s (Base v a x) l = inr (λ h. h)
+gives_or setting s (PlaceIn v a u i) l = inr (λ h. h)
 
 item_gives_or : (setting : Setting) (s : State) (i : Item) (l : Location) → item_gives setting s i l ⊎ (item_gives setting s i l → ⊥)
 item_gives_or setting s (Plain op cluster) l = gives_or setting s op l

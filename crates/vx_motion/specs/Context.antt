@@ -1,9 +1,10 @@
 -- Programs in which graphs were replaced by graphs of the same meaning, and programs of graphs without regions.
-use Rattle.std.specs.Prelude.{◌≡◌, ◌≢◌, ℕ, ℤ, Bool, Option, Some, None, List, [], slice_get}
+use Rattle.std.specs.Prelude.{◌≡◌, ◌≢◌, ℕ, ℤ, Bool, Option, Some, None, List, [], length, slice_get}
 use Rattle.vx_base.specs.Outcome.{Same, NeverFails}
 use Rattle.vx_flow.specs.declared.graph.Op.{Op}
 use Rattle.vx_flow.specs.declared.graph.Graph.{Graph}
 use Rattle.vx_flow.specs.declared.graph.Flow.{Flow}
+use Rattle.vx_flow.specs.Apart.{GlobalsFirst}
 use Rattle.vx_flow.specs.Effects.{State, Setting}
 use Rattle.vx_flow.specs.Meaning.{hop_of, graph_run}
 use Rattle.vx_mixed.specs.declared.mixed.MixedGraph.{MixedGraph}
@@ -33,9 +34,13 @@ SameRuns flow times latency ms ms' input =
     NeverFails (mixed_run flow times latency ms input) →
     Same (mixed_run flow times latency ms input) (mixed_run flow times latency ms' input) × NeverFails (mixed_run flow times latency ms' input)
 
+-- in each function the arrays that are numbered as globals are global
+abbrev pub HaveGlobalsFirst : (globals : ℕ) → List MixedGraph → Type 0
+HaveGlobalsFirst globals ms = (f : ℕ) (m : MixedGraph) → slice_get ms f ≡ Some m → GlobalsFirst globals m.arrays
+
 -- A graph of the same meaning may stand in place of a graph of any function of a program.
 abbrev pub InContext : Type 0
-InContext = (flow : Flow) (times : List ℕ) (latency : Op → ℕ) (ms ms' : List MixedGraph) (input : List ℤ) → times ≢ [] → AllBecome latency ms ms' → SameRuns flow times latency ms ms' input
+InContext = (flow : Flow) (times : List ℕ) (latency : Op → ℕ) (ms ms' : List MixedGraph) (input : List ℤ) → times ≢ [] → HaveGlobalsFirst (length flow.globals) ms → AllBecome latency ms ms' → SameRuns flow times latency ms ms' input
 
 -- any number of replacements, one after the other
 pub data Chain (latency : Op → ℕ) : List MixedGraph → List MixedGraph → Type 0 where
@@ -43,7 +48,7 @@ pub data Chain (latency : Op → ℕ) : List MixedGraph → List MixedGraph → 
   Then : {ms ns os : List MixedGraph} → AllBecome latency ms ns → Chain latency ns os → Chain latency ms os
 
 abbrev pub ChainLaw : Type 0
-ChainLaw = (flow : Flow) (times : List ℕ) (latency : Op → ℕ) (ms ms' : List MixedGraph) (input : List ℤ) → times ≢ [] → Chain latency ms ms' → SameRuns flow times latency ms ms' input
+ChainLaw = (flow : Flow) (times : List ℕ) (latency : Op → ℕ) (ms ms' : List MixedGraph) (input : List ℤ) → times ≢ [] → HaveGlobalsFirst (length flow.globals) ms → Chain latency ms ms' → SameRuns flow times latency ms ms' input
 
 -- a graph after any number of replacements
 pub data Steps (latency : Op → ℕ) : MixedGraph → MixedGraph → Type 0 where
@@ -61,7 +66,7 @@ AllStep latency ms ms' = (f : ℕ) → BothStep latency (slice_get ms f) (slice_
 
 -- Each graph of a program may have been replaced any number of times.
 abbrev pub StepsLaw : Type 0
-StepsLaw = (flow : Flow) (times : List ℕ) (latency : Op → ℕ) (ms ms' : List MixedGraph) (input : List ℤ) → times ≢ [] → AllStep latency ms ms' → SameRuns flow times latency ms ms' input
+StepsLaw = (flow : Flow) (times : List ℕ) (latency : Op → ℕ) (ms ms' : List MixedGraph) (input : List ℤ) → times ≢ [] → HaveGlobalsFirst (length flow.globals) ms → AllStep latency ms ms' → SameRuns flow times latency ms ms' input
 
 -- it does block by block what the graph does
 abbrev pub MeansTheGraph : Type 0

@@ -6,7 +6,7 @@ use Rattle.vx_flow.specs.declared.graph.Exit.{Exit}
 use Rattle.vx_flow.specs.declared.graph.Exit.TheVariants.{Goto, Split as Branches, Call, Return, Ends}
 use Rattle.vx_flow.specs.declared.graph.Graph.{Graph}
 use Rattle.vx_flow.specs.declared.graph.Op.{Op}
-use Rattle.vx_flow.specs.declared.graph.Op.TheVariants.{Compute, Select, Place, Load, Store, More, Input, Text, Decimal, Across}
+use Rattle.vx_flow.specs.declared.graph.Op.TheVariants.{Compute, Select, Place, Load, Store, More, Input, Text, Decimal, Across, Base, PlaceIn}
 use Rattle.vx_flow.specs.declared.trace.TraceOp.{TraceOp}
 use Rattle.vx_flow.specs.declared.trace.TraceOp.TheVariants.{Plain as TracePlain, Split as TraceSplit}
 use Rattle.vx_flow.specs.declared.trace.Join.{Join}
@@ -34,7 +34,7 @@ use Rattle.vx_region.proofs.Formed.{fixed_many, up}
 use Rattle.vx_region.proofs.BelowJoins.{Below, below_join}
 use Rattle.vx_region.proofs.PlainItems.{some_at}
 use Rattle.vx_region.proofs.PlanOps.{is_op}
-use Rattle.vx_region.proofs.TracePlaces.{PlaceIn, of_block, of_split, place_in, none_there}
+use Rattle.vx_region.proofs.TracePlaces.{PlaceIn as PlacedIn, of_block, of_split, place_in, none_there}
 
 -- what is bound to cluster 0 is what a choice writes, or what comes from the input
 bound_is : (op : TraceOp) (v : ℕ) → IsIn v (bound_writes op) → (o : Op) × (op ≡ TracePlain o) × (binds o ≡ Some v)
@@ -51,6 +51,8 @@ bound_is (TracePlain (Input w)) v (inr h) = absurd h
 bound_is (TracePlain (Text n)) v h = absurd h
 bound_is (TracePlain (Decimal x)) v h = absurd h
 bound_is (TracePlain (Across w u)) v h = absurd h
+bound_is (TracePlain (Base w a x)) v h = absurd h
+bound_is (TracePlain (PlaceIn w a u i)) v h = absurd h
 bound_is (TraceSplit p y e live) v h = absurd h
 
 -- a list of clusters
@@ -116,8 +118,8 @@ module _ (machine : Numbers) (graph : Graph) (m : MixedGraph) (blocks : List ℕ
   long b h (Some None) e = length_none (length (block_at m b).ops) None
   long b h (Some (Some origin)) e = length_map Some origin.clusters ∙ origins_fit b origin h e
 
-  place : (i : ℕ) (op : TraceOp) → Stands t i op → PlaceIn m is.live blocks op (slice_index_or t.fixed i None)
-  place i op at = subst (λ z. PlaceIn m is.live blocks op (slice_index_or z i None)) (sym is.fixed) (place_in m is.live blocks i op (λ b h. long b h (slice_get m.origins b) refl) (ap (λ z. slice_get z i) (sym is.ops) ∙ at))
+  place : (i : ℕ) (op : TraceOp) → Stands t i op → PlacedIn m is.live blocks op (slice_index_or t.fixed i None)
+  place i op at = subst (λ z. PlacedIn m is.live blocks op (slice_index_or z i None)) (sym is.fixed) (place_in m is.live blocks i op (λ b h. long b h (slice_get m.origins b) refl) (ap (λ z. slice_get z i) (sym is.ops) ∙ at))
 
   -- one that has its cluster
 
@@ -136,7 +138,7 @@ module _ (machine : Numbers) (graph : Graph) (m : MixedGraph) (blocks : List ℕ
   has_cluster : (i cluster : ℕ) (op : TraceOp) → Stands t i op → IsFixed t i cluster → HasCluster op cluster
   has_cluster i cluster op at fixed = by (place i op at)
     where
-      by : PlaceIn m is.live blocks op (slice_index_or t.fixed i None) → HasCluster op cluster
+      by : PlacedIn m is.live blocks op (slice_index_or t.fixed i None) → HasCluster op cluster
       by (of_block b j o h q o_at f) = subst (λ z. HasCluster z cluster) (sym q) (made_has b j o cluster h o_at (slice_get m.origins b) refl (sym fixed ∙ f))
       by (of_split b bs h s f) = let z : Some cluster ≡ None = sym fixed ∙ f in absurd cc
 
@@ -173,7 +175,7 @@ module _ (machine : Numbers) (graph : Graph) (m : MixedGraph) (blocks : List ℕ
   pub names_below : (i : ℕ) (op : TraceOp) → Stands t i op → IsFree t i → NamesBelow op
   names_below i op at free = by (place i op at)
     where
-      by : PlaceIn m is.live blocks op (slice_index_or t.fixed i None) → NamesBelow op
+      by : PlacedIn m is.live blocks op (slice_index_or t.fixed i None) → NamesBelow op
       by (of_block b j o h q o_at f) = subst NamesBelow (sym q) (block_names b j o h o_at (sym free ∙ f))
       by (of_split b bs h s f) = split_names b bs op h s
 

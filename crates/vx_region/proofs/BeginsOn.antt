@@ -7,7 +7,7 @@ use Rattle.vx_flow.specs.declared.graph.Block.{Block}
 use Rattle.vx_flow.specs.declared.graph.Edge.{Edge}
 use Rattle.vx_flow.specs.declared.graph.Graph.{Graph}
 use Rattle.vx_flow.specs.declared.graph.Op.{Op}
-use Rattle.vx_flow.specs.declared.graph.Op.TheVariants.{Compute, Select, Place, Load, Store, More, Input, Text, Decimal, Across}
+use Rattle.vx_flow.specs.declared.graph.Op.TheVariants.{Compute, Select, Place, Load, Store, More, Input, Text, Decimal, Across, Base, PlaceIn}
 use Rattle.vx_flow.specs.Effects.{IsIn, reads, writes}
 use Rattle.vx_flow.specs.Sound.{HasOperation, Sound, is_sound, is_general, is_sound_operation, is_sound_exit, is_sound_in, is_sound_block, is_kept, is_access_placed, bank_written}
 use Rattle.vx_flow.specs.Operands.{binds}
@@ -24,7 +24,7 @@ use Rattle.vx_layout.specs.OriginLaws.{BeginsWithCode}
 use Rattle.vx_layout.specs.Origins.{ComesFromGraph}
 use Rattle.vx_mixed.specs.Settled.{has_home}
 use Rattle.vx_mixed.specs.Valid.{IsOp, block_op, region_op, names_of}
-use Rattle.vx_mixed.proofs.Begins.{op_below, no_region, begins_tidy, begins_settled, node_is, is_block}
+use Rattle.vx_mixed.proofs.Begins.{sound_op, sound_blocks, op_below, no_region, begins_tidy, begins_settled, node_is, is_block}
 use Rattle.vx_mixed.proofs.Linked.{index_in}
 use Rattle.vx_motion.specs.MadeBlocks.{MadeFacts}
 use Rattle.vx_motion.specs.Paths.{UnusedEdge, IsHeaded}
@@ -55,6 +55,8 @@ binds_written (Input w) v e = let q : v ≡ w = cc in inl q
 binds_written (Text n) v e = absurd (cc)
 binds_written (Decimal x) v e = absurd (cc)
 binds_written (Across w u) v e = absurd (cc)
+binds_written (Base w a x) v e = absurd (cc)
+binds_written (PlaceIn w a u i) v e = absurd (cc)
 
 module _ (graph : Graph) (m : MixedGraph) (sound_test : is_sound graph ≡ true) (from : FromGraph graph m) where
   sound : Sound graph
@@ -98,10 +100,9 @@ module _ (graph : Graph) (m : MixedGraph) (sound_test : is_sound graph ≡ true)
 
 named_below : (graph : Graph) → is_sound graph ≡ true → (op : Op) (v : ℕ) → HasOperation graph op → IsIn v (names_of op) → v < length graph.banks
 named_below graph sound op v h i =
-    let s = all_in (is_sound_block graph) graph.blocks h.block (and_parts (list_all (is_general graph.banks) graph.parameters) (list_all (is_sound_block graph) graph.blocks) sound).1 h.has in
+    let s = all_in (is_sound_block graph) graph.blocks h.block (sound_blocks graph sound) h.has in
     let y = all_in (is_sound_in graph) h.block.ops op (and_parts (list_all (is_sound_in graph) h.block.ops) (is_sound_exit graph.banks (length graph.blocks) h.block.exit) s).0 h.stands in
-    let z = (and_parts (is_sound_operation graph.banks (length graph.arrays) op && is_kept graph op) (is_access_placed graph op) y).0 in
-    let w = (and_parts (is_sound_operation graph.banks (length graph.arrays) op) (is_kept graph op) z).0 in
+    let w = sound_op graph op y in
     elim (in_either v (reads op) (writes op) i) [
       | inl r ↦ op_below graph.banks (length graph.arrays) op w v r
       | inr x ↦ get_below graph.banks v (bank_written op) ((sound_is graph sound).results op v h x)

@@ -11,7 +11,7 @@ use Rattle.vx_flow.specs.declared.graph.Bank.{Bank}
 use Rattle.vx_flow.specs.declared.graph.Bank.TheVariants.{General, Branch}
 use Rattle.vx_flow.specs.declared.graph.Graph.{Graph}
 use Rattle.vx_flow.specs.declared.graph.Op.{Op}
-use Rattle.vx_flow.specs.declared.graph.Op.TheVariants.{Compute, Select, Place, Load, Store, More, Input, Text, Decimal, Across}
+use Rattle.vx_flow.specs.declared.graph.Op.TheVariants.{Compute, Select, Place, Load, Store, More, Input, Text, Decimal, Across, Base, PlaceIn}
 use Rattle.vx_flow.specs.declared.graph.Operand.{Operand}
 use Rattle.vx_flow.specs.declared.graph.Operand.TheVariants.{Held, Number, Stack}
 use Rattle.vx_flow.specs.declared.trace.TraceOp.{TraceOp}
@@ -95,6 +95,8 @@ no_across_read (Input w) v h = (refl, h)
 no_across_read (Text n) v h = (refl, h)
 no_across_read (Decimal x) v h = (refl, h)
 no_across_read (Across w u) v h = absurd h
+no_across_read (Base w a x) v h = (refl, h)
+no_across_read (PlaceIn w a u i) v h = (refl, h)
 
 tests_bound : (op : Op) (v : ℕ) → IsIn v (tests_of op) → is_bound (TracePlain op) ≡ true
 tests_bound (Select w p a b) v h = refl
@@ -107,6 +109,8 @@ tests_bound (Input w) v h = absurd h
 tests_bound (Text n) v h = absurd h
 tests_bound (Decimal x) v h = absurd h
 tests_bound (Across w u) v h = absurd h
+tests_bound (Base w a x) v h = absurd h
+tests_bound (PlaceIn w a u i) v h = absurd h
 
 -- what is written is a general value, or a branch value on cluster 0
 code_written : (code : Code) (w : ℕ) (a b : Operand) (v : ℕ) → IsIn v (w ∷ []) → (IsIn v (general_writes (TracePlain (Compute code w a b))) × (bank_written (Compute code w a b) ≡ General)) ⊎ ((is_bound (TracePlain (Compute code w a b)) ≡ true) × (bank_written (Compute code w a b) ≡ Branch))
@@ -140,6 +144,8 @@ written (Input w) v h = inl (h, refl)
 written (Text n) v h = absurd h
 written (Decimal x) v h = absurd h
 written (Across w u) v h = inl (h, refl)
+written (Base w a x) v h = inl (h, refl)
+written (PlaceIn w a u i) v h = inl (h, refl)
 
 -- what is bound is written, by an operation on cluster 0
 bound_written : (op : Op) (v : ℕ) → binds op ≡ Some v → IsIn v (general_writes (TracePlain op)) × (is_bound (TracePlain op) ≡ true)
@@ -153,6 +159,8 @@ bound_written (Input w) v e = let q : v ≡ w = cc in (inl q, refl)
 bound_written (Text n) v e = absurd (cc)
 bound_written (Decimal x) v e = absurd (cc)
 bound_written (Across w u) v e = absurd (cc)
+bound_written (Base w a x) v e = absurd (cc)
+bound_written (PlaceIn w a u i) v e = absurd (cc)
 
 first_is : (op : Op) (k : ℕ) → (is_bound (TracePlain op) ≡ true → k ≡ 0) → OnFirst op k
 first_is (Compute code v a b) k h = λ e. absurd (cc)
@@ -165,6 +173,8 @@ first_is (Input v) k h = λ e. h refl
 first_is (Text n) k h = λ e. h refl
 first_is (Decimal x) k h = λ e. h refl
 first_is (Across v u) k h = λ e. absurd (cc)
+first_is (Base v a x) k h = λ e. absurd (cc)
+first_is (PlaceIn v a u i) k h = λ e. absurd (cc)
 
 -- a load that may be dismissed is at home where the load is
 pub dismissed_at_home : (home : ℕ → Option ℕ) (op : Op) (k : ℕ) → IsAtHome home (TracePlain op) k → IsAtHome home (TracePlain (dismissed op)) k
@@ -178,6 +188,8 @@ dismissed_at_home home (Input v) k h = h
 dismissed_at_home home (Text n) k h = h
 dismissed_at_home home (Decimal x) k h = h
 dismissed_at_home home (Across v u) k h = h
+dismissed_at_home home (Base v a x) k h = h
+dismissed_at_home home (PlaceIn v a u i) k h = h
 
 -- an operation at home stands where its values do
 module _ (graph : Graph) (M : MixedGraph) (banks : M.banks ≡ graph.banks) (copied : CopiesAtHome (length M.banks) (has_home M.homes.clusters)) (op : Op) (k : ℕ) (knows : Known graph op) (home : IsAtHome (has_home M.homes.clusters) (TracePlain op) k) where
@@ -226,6 +238,8 @@ whole_same n to h (Input v) = refl
 whole_same n to h (Text k) = refl
 whole_same n to h (Decimal x) = ap Decimal (whole_operand_same n to h x)
 whole_same n to h (Across v u) = refl
+whole_same n to h (Base v a x) = refl
+whole_same n to h (PlaceIn v a u i) = ap (λ z. PlaceIn (whole n v) a z (whole_operand n (with_value_in to i))) (h u) ∙ ap (λ z. PlaceIn (whole n v) a (whole n u) z) (whole_operand_same n to h i)
 
 here_whole : (n : ℕ) (homes : ℕ → Option ℕ) (k v : ℕ) → here n homes k v % n ≡ v % n
 here_whole n homes k v = by (is_away (homes v) k)
@@ -250,6 +264,8 @@ renamed_across to (Input w) v u e = absurd cc
 renamed_across to (Text n) v u e = absurd cc
 renamed_across to (Decimal x) v u e = absurd cc
 renamed_across to (Across w x) v u e = sym e
+renamed_across to (Base w a x) v u e = absurd cc
+renamed_across to (PlaceIn w a u0 i) v u e = absurd cc
 
 -- the operations of a clustered trace
 
@@ -287,6 +303,8 @@ module _ (machine : Numbers) (graph : Graph) (m : MixedGraph) (blocks : List ℕ
   general_read (TracePlain (Text n)) v h = h
   general_read (TracePlain (Decimal x)) v h = h
   general_read (TracePlain (Across w u)) v h = h
+  general_read (TracePlain (Base w a x)) v h = h
+  general_read (TracePlain (PlaceIn w a u i)) v h = h
   general_read (TraceSplit p y e live) v h = absurd h
 
   plain_reads : (op : TraceOp) (v : ℕ) → IsIn v (general_reads op) → (o : Op) × (op ≡ TracePlain o)

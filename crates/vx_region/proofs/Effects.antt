@@ -1,15 +1,15 @@
 -- One operation that reads the same contents in two states.
-use Rattle.std.proofs.Common.{◌≡◌, inl, inr, refl, sym, ◌∙◌, ap, subst, Bool, true, false, if◌then◌else◌, nat_eq, ℕ, ℤ, Option, Some, None, List, [], ◌∷◌, ◌++◌, length, map, slice_set, slice_index_or}
+use Rattle.std.proofs.Common.{◌≡◌, inl, inr, refl, sym, ◌∙◌, ap, subst, Bool, true, false, if◌then◌else◌, nat_eq, ℕ, ℤ, pos, Option, Some, None, List, [], ◌∷◌, ◌++◌, length, map, slice_set, slice_index_or}
 use Rattle.std.specs.List.{list_any}
 use Rattle.vx_base.specs.Arithmetic.{value_of, one_if}
 use Rattle.vx_base.specs.declared.arithmetic.Code.{Code}
 use Rattle.vx_flow.specs.declared.graph.Operand.{Operand}
 use Rattle.vx_flow.specs.declared.graph.Operand.TheVariants.{Held, Number, Stack}
 use Rattle.vx_flow.specs.declared.graph.Op.{Op}
-use Rattle.vx_flow.specs.declared.graph.Op.TheVariants.{Compute, Select, Place, Load, Store, More, Input, Text, Decimal, Across}
+use Rattle.vx_flow.specs.declared.graph.Op.TheVariants.{Compute, Select, Place, Load, Store, More, Input, Text, Decimal, Across, Base, PlaceIn}
 use Rattle.vx_flow.specs.declared.trace.TraceOp.{TraceOp}
 use Rattle.vx_flow.specs.declared.trace.TraceOp.TheVariants.{Plain, Split}
-use Rattle.vx_flow.specs.Effects.{Content, State, Setting, IsIn, held, is_unary, both, computed, chosen, place_of, row_of, cell_in, cell_of, is_left, text_at, with_value, with_cell, loaded, stored, next_input, printed, state_or, effect, calm_effect, value_in, reads, writes}
+use Rattle.vx_flow.specs.Effects.{Content, State, Setting, IsIn, held, is_unary, both, computed, chosen, place_of, place_by, row_of, cell_in, cell_of, is_left, text_at, with_value, with_cell, loaded, stored, next_input, printed, state_or, effect, calm_effect, value_in, reads, writes}
 use Rattle.vx_flow.specs.Operands.{with_value_in}
 use Rattle.vx_flow.specs.Agree.{SameWorld}
 use Rattle.vx_linear.specs.InOrder.{in_order}
@@ -168,6 +168,11 @@ renamed_effects setting s s' to (Input v) e w = subst (λ ns. After (v ∷ []) s
 renamed_effects setting s s' to (Text n) e w = record { same = λ u h. let f : false ≡ true = h in absurd cc; kept = λ u h. refl; kept_there = λ u h. refl; world = record { arrays = w.arrays; input = w.input; out = ap (λ o. o ++ text_at setting n) w.out } }
 renamed_effects setting s s' to (Decimal x) e w = printed_after s s' (held s x) (held s' (with_value_in to x)) w (one_held s s' to x e)
 renamed_effects setting s s' to (Across v u) e w = let f : s'.values u ∷ [] ≡ s.values u ∷ [] = e in let same : s'.values u ≡ s.values u = cc in moved_value s s' v (s.values u) (s'.values u) w same
+renamed_effects setting s s' to (Base v a x) e w = moved_value s s' v (Some (pos (setting.spot a))) (Some (pos (setting.spot a))) w refl
+renamed_effects setting s s' to (PlaceIn v a u i) e w =
+    let p = two_held s s' to i (Held u) e in
+    moved_value s s' v (place_by (s.values u) (held s i)) (place_by (s'.values (to u)) (held s' (with_value_in to i))) w
+    (ap (λ z. place_by z (held s' (with_value_in to i))) p.1 ∙ ap (λ z. place_by (s.values u) z) p.0)
 
 renamed_calm : (setting : Setting) (s s' : State) (to : ℕ → ℕ) (op : Op) → Contents s s' to op → SameWorld s s' → Moved (writes op) s s' (calm_effect setting s op s) (calm_effect setting s' (renamed to op) s')
 renamed_calm setting s s' to (Compute code v a b) e w = renamed_effects setting s s' to (Compute code v a b) e w
@@ -181,6 +186,8 @@ renamed_calm setting s s' to (Input v) e w = subst (λ ns. Moved (v ∷ []) s s'
 renamed_calm setting s s' to (Text n) e w = renamed_effects setting s s' to (Text n) e w
 renamed_calm setting s s' to (Decimal x) e w = calm_or s s' (effect setting s (Decimal x) s) (effect setting s' (renamed to (Decimal x)) s') w (renamed_effects setting s s' to (Decimal x) e w)
 renamed_calm setting s s' to (Across v u) e w = renamed_effects setting s s' to (Across v u) e w
+renamed_calm setting s s' to (Base v a x) e w = renamed_effects setting s s' to (Base v a x) e w
+renamed_calm setting s s' to (PlaceIn v a u i) e w = renamed_effects setting s s' to (PlaceIn v a u i) e w
 
 contents_of : (s s' : State) (op op' : Op) (r : SameReads s s' op op') → Contents s s' r.to op
 contents_of s s' op op' r = ap (λ o. map s'.values (reads o)) (sym r.is) ∙ r.contents
@@ -227,6 +234,8 @@ same_contents s s' to (Input v) h g = refl
 same_contents s s' to (Text n) h g = refl
 same_contents s s' to (Decimal x) h g = one_same s s' to x h
 same_contents s s' to (Across v u) h g = ap (λ c. c ∷ []) (g u (inl refl))
+same_contents s s' to (Base v a x) h g = refl
+same_contents s s' to (PlaceIn v a u i) h g = two_same s s' to i (Held u) h
 
 pub renamed_reads : (s s' : State) (to : ℕ → ℕ) (op : TraceOp) → Same s s' to (general_reads op) → Same s s' (λ v. v) (reads_of op) → SameReadsOf s s' op (renamed_op to op)
 renamed_reads s s' to (Plain op) h g = executes (record { to = to; is = refl; contents = same_contents s s' to op h g })
@@ -254,6 +263,8 @@ op_itself (Input v) = refl
 op_itself (Text n) = refl
 op_itself (Decimal x) = sym (ap (λ y. Decimal y) (itself x))
 op_itself (Across v u) = refl
+op_itself (Base v a x) = refl
+op_itself (PlaceIn v a u i) = sym (ap (λ x. PlaceIn v a u x) (itself i))
 
 same_values : (s s' : State) (vs : List ℕ) → Same s s' (λ v. v) vs → map s'.values vs ≡ map s.values vs
 same_values s s' [] h = refl

@@ -4,7 +4,7 @@ use Rattle.std.specs.List.{list_any}
 use Rattle.vx_flow.specs.declared.graph.Edge.{Edge}
 use Rattle.vx_flow.specs.declared.graph.Operand.{Operand}
 use Rattle.vx_flow.specs.declared.graph.Operand.TheVariants.{Held, Number, Stack}
-use Rattle.vx_flow.specs.declared.graph.Op.TheVariants.{Compute, Select, Place, Load, Store, More, Input, Text, Decimal, Across}
+use Rattle.vx_flow.specs.declared.graph.Op.TheVariants.{Compute, Select, Place, Load, Store, More, Input, Text, Decimal, Across, Base, PlaceIn}
 use Rattle.vx_flow.specs.declared.trace.TraceOp.{TraceOp}
 use Rattle.vx_flow.specs.declared.trace.TraceOp.TheVariants.{Plain, Split}
 use Rattle.vx_flow.specs.declared.trace.Trace.{Trace}
@@ -60,6 +60,8 @@ renamed_read to (Plain (Input w)) v h = absurd h
 renamed_read to (Plain (Text n)) v h = absurd h
 renamed_read to (Plain (Decimal x)) v h = inl (operand_read to x v h)
 renamed_read to (Plain (Across w u)) v h = inr h
+renamed_read to (Plain (Base w a x)) v h = absurd h
+renamed_read to (Plain (PlaceIn w a u i)) v h = inl (two_read to i (Held u) v h)
 renamed_read to (Split p y edge live) v h = inr h
 
 pub renamed_writes : (to : ℕ → ℕ) (op : TraceOp) → writes_of (renamed_op to op) ≡ writes_of op
@@ -73,6 +75,8 @@ renamed_writes to (Plain (Input w)) = refl
 renamed_writes to (Plain (Text n)) = refl
 renamed_writes to (Plain (Decimal x)) = refl
 renamed_writes to (Plain (Across w u)) = refl
+renamed_writes to (Plain (Base w a x)) = refl
+renamed_writes to (Plain (PlaceIn w a u i)) = refl
 renamed_writes to (Split p y edge live) = refl
 
 module _ (t : Trace) (homes : ℕ → Option ℕ) (lives : Edge → List ℕ → ℕ → Type 0) (end : ℕ → Type 0) where

@@ -4,7 +4,7 @@ use Rattle.std.proofs.lemmas.List.{append_assoc, map-append}
 use Rattle.vx_flow.specs.declared.graph.Exit.{Exit}
 use Rattle.vx_flow.specs.declared.graph.Exit.TheVariants.{Goto, Split as Branch, Call, Return, Ends}
 use Rattle.vx_flow.specs.declared.graph.Op.{Op}
-use Rattle.vx_flow.specs.declared.graph.Op.TheVariants.{Compute, Select, Place, Load, Store, More, Input, Text, Decimal, Across}
+use Rattle.vx_flow.specs.declared.graph.Op.TheVariants.{Compute, Select, Place, Load, Store, More, Input, Text, Decimal, Across, Base, PlaceIn}
 use Rattle.vx_flow.specs.declared.trace.TraceOp.{TraceOp}
 use Rattle.vx_flow.specs.declared.trace.TraceOp.TheVariants.{Plain, Split}
 use Rattle.vx_flow.specs.declared.trace.Trace.{Trace}
@@ -55,6 +55,8 @@ calm_is setting s t (Input v) e = or_so (with_value s v None) t (effect setting 
 calm_is setting s t (Text n) e = or_so s t (effect setting s (Text n) s) e
 calm_is setting s t (Decimal x) e = or_so s t (effect setting s (Decimal x) s) e
 calm_is setting s t (Across v u) e = or_so s t (effect setting s (Across v u) s) e
+calm_is setting s t (Base v a x) e = or_so s t (effect setting s (Base v a x) s) e
+calm_is setting s t (PlaceIn v a u i) e = or_so s t (effect setting s (PlaceIn v a u i) s) e
 
 -- items
 

@@ -4,7 +4,7 @@ use Rattle.std.specs.List.{list_any}
 use Rattle.vx_flow.specs.declared.graph.Edge.{Edge}
 use Rattle.vx_flow.specs.declared.graph.Operand.{Operand}
 use Rattle.vx_flow.specs.declared.graph.Operand.TheVariants.{Held, Number, Stack}
-use Rattle.vx_flow.specs.declared.graph.Op.TheVariants.{Compute, Select, Place, Load, Store, More, Input, Text, Decimal, Across}
+use Rattle.vx_flow.specs.declared.graph.Op.TheVariants.{Compute, Select, Place, Load, Store, More, Input, Text, Decimal, Across, Base, PlaceIn}
 use Rattle.vx_flow.specs.declared.trace.TraceOp.{TraceOp}
 use Rattle.vx_flow.specs.declared.trace.TraceOp.TheVariants.{Plain, Split}
 use Rattle.vx_flow.specs.declared.trace.Trace.{Trace}
@@ -54,6 +54,8 @@ kept_read to (Plain (Input w)) v e h = absurd h
 kept_read to (Plain (Text n)) v e h = absurd h
 kept_read to (Plain (Decimal x)) v e h = operand_kept to x v e h
 kept_read to (Plain (Across w u)) v e h = h
+kept_read to (Plain (Base w a x)) v e h = absurd h
+kept_read to (Plain (PlaceIn w a u i)) v e h = two_kept to i (Held u) v e h
 kept_read to (Split p y edge live) v e h = h
 
 -- a value that is read is a general one, or a test, which keeps its name
@@ -68,6 +70,8 @@ general_or to (Plain (Input w)) v h = inl h
 general_or to (Plain (Text n)) v h = inl h
 general_or to (Plain (Decimal x)) v h = inl h
 general_or to (Plain (Across w u)) v h = inl h
+general_or to (Plain (Base w a x)) v h = absurd h
+general_or to (Plain (PlaceIn w a u i)) v h = inl h
 general_or to (Split p y edge live) v h = inr h
 
 module _ (t : Trace) (homes : ℕ → Option ℕ) (lives lives' : Edge → List ℕ → ℕ → Type 0) (end end' : ℕ → Type 0) (v : ℕ) (wider : (ops : List TraceOp) → Wanted lives end ops v → Wanted lives' end' ops v) where

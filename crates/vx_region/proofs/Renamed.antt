@@ -4,7 +4,7 @@ use Rattle.vx_base.specs.declared.arithmetic.Code.{Code}
 use Rattle.vx_base.specs.declared.arithmetic.Code.TheVariants.{Add, Sub, And, Or, Xor, Shl, Shr, Shru, Sh2add, Max, Min, Mov, ToGeneral, ToBranch, Mpylu, Mpyhs, Div, Rem}
 use Rattle.vx_flow.specs.declared.graph.Operand.{Operand}
 use Rattle.vx_flow.specs.declared.graph.Operand.TheVariants.{Held, Number, Stack}
-use Rattle.vx_flow.specs.declared.graph.Op.TheVariants.{Compute, Select, Place, Load, Store, More, Input, Text, Decimal, Across}
+use Rattle.vx_flow.specs.declared.graph.Op.TheVariants.{Compute, Select, Place, Load, Store, More, Input, Text, Decimal, Across, Base, PlaceIn}
 use Rattle.vx_flow.specs.declared.trace.TraceOp.{TraceOp}
 use Rattle.vx_flow.specs.declared.trace.TraceOp.TheVariants.{Plain, Split}
 use Rattle.vx_flow.specs.Effects.{IsIn, is_unary, value_in}
@@ -50,6 +50,8 @@ reads_named to (Plain (Input v)) x n h = absurd h
 reads_named to (Plain (Text k)) x n h = absurd h
 reads_named to (Plain (Decimal y)) x n h = operand_named to y x h
 reads_named to (Plain (Across v u)) x n h = absurd cc
+reads_named to (Plain (Base v a y)) x n h = absurd h
+reads_named to (Plain (PlaceIn v a u i)) x n h = both_named to i (Held u) x h
 reads_named to (Split test leaves_when edge live) x n h = absurd h
 
 -- a computation that makes a branch value, and all others
@@ -92,6 +94,8 @@ writes_stay to (Plain (Input v)) = refl
 writes_stay to (Plain (Text k)) = refl
 writes_stay to (Plain (Decimal y)) = refl
 writes_stay to (Plain (Across v u)) = refl
+writes_stay to (Plain (Base v a x)) = refl
+writes_stay to (Plain (PlaceIn v a u i)) = refl
 writes_stay to (Split test leaves_when edge live) = refl
 
 pub bound_stays : (to : ℕ → ℕ) (op : TraceOp) → is_bound (renamed_op to op) ≡ is_bound op
@@ -105,10 +109,14 @@ bound_stays to (Plain (Input v)) = refl
 bound_stays to (Plain (Text k)) = refl
 bound_stays to (Plain (Decimal y)) = refl
 bound_stays to (Plain (Across v u)) = refl
+bound_stays to (Plain (Base v a x)) = refl
+bound_stays to (Plain (PlaceIn v a u i)) = refl
 bound_stays to (Split test leaves_when edge live) = refl
 
 pub across_stays : (to : ℕ → ℕ) (op : TraceOp) → is_across op ≡ true → renamed_op to op ≡ op
 across_stays to (Plain (Across v u)) e = refl
+across_stays to (Plain (Base v a x)) e = absurd cc
+across_stays to (Plain (PlaceIn v a u i)) e = absurd cc
 across_stays to (Plain (Compute code v a b)) e = absurd cc
 across_stays to (Plain (Select v test a b)) e = absurd cc
 across_stays to (Plain (Place v a i)) e = absurd cc
@@ -137,6 +145,8 @@ one_written (Plain (Input v)) w h = only v w true h
 one_written (Plain (Text k)) w h = absurd h
 one_written (Plain (Decimal y)) w h = absurd h
 one_written (Plain (Across v u)) w h = only v w true h
+one_written (Plain (Base v a x)) w h = only v w true h
+one_written (Plain (PlaceIn v a u i)) w h = only v w true h
 one_written (Split test leaves_when edge live) w h = absurd h
 
 pub writes_in : (op : TraceOp) (w : ℕ) → IsIn w (general_writes op) → IsIn w (writes_of op)
@@ -154,6 +164,8 @@ writes_in (Plain (Input v)) w h = h
 writes_in (Plain (Text k)) w h = absurd h
 writes_in (Plain (Decimal y)) w h = absurd h
 writes_in (Plain (Across v u)) w h = h
+writes_in (Plain (Base v a x)) w h = h
+writes_in (Plain (PlaceIn v a u i)) w h = h
 writes_in (Split test leaves_when edge live) w h = absurd h
 
 -- a general value written on cluster 0 alone is that of a selection or of an operation that meets the input
@@ -170,12 +182,16 @@ bound_written (Plain (Input v)) w e h = h
 bound_written (Plain (Text k)) w e h = absurd h
 bound_written (Plain (Decimal y)) w e h = absurd h
 bound_written (Plain (Across v u)) w e h = absurd cc
+bound_written (Plain (Base v a x)) w e h = absurd cc
+bound_written (Plain (PlaceIn v a u i)) w e h = absurd cc
 bound_written (Split test leaves_when edge live) w e h = absurd h
 
 -- copies across
 
 pub read_across : (op : TraceOp) (u : ℕ) → is_across op ≡ true → IsIn u (general_reads op) → (v : ℕ) × (op ≡ Plain (Across v u))
 read_across (Plain (Across v w)) u e h = (v, ap (λ x. Plain (Across v x)) (⊎_elim (λ q. sym q) (λ z. absurd z) h))
+read_across (Plain (Base v a x)) u e h = absurd cc
+read_across (Plain (PlaceIn v a w i)) u e h = absurd cc
 read_across (Plain (Compute code v a b)) u e h = absurd cc
 read_across (Plain (Select v test a b)) u e h = absurd cc
 read_across (Plain (Place v a i)) u e h = absurd cc
@@ -189,6 +205,8 @@ read_across (Split test leaves_when edge live) u e h = absurd cc
 
 pub other_reads : (op : TraceOp) → reads_copies None op ≡ false → is_across op ≡ true
 other_reads (Plain (Across v w)) e = refl
+other_reads (Plain (Base v a x)) e = absurd cc
+other_reads (Plain (PlaceIn v a u i)) e = absurd cc
 other_reads (Plain (Compute code v a b)) e = absurd cc
 other_reads (Plain (Select v test a b)) e = absurd cc
 other_reads (Plain (Place v a i)) e = absurd cc

@@ -2,7 +2,7 @@
 use Rattle.std.proofs.Common.{◌≡◌, ℕ, ◌+◌, Bool, ◌&&◌, true, List, [], ◌∷◌, ◌++◌, cond, map, count_by, nat_le, refl, sym, ap, ◌∙◌}
 use Rattle.std.specs.Prelude.{◌==◌}
 use Rattle.std.specs.List.{list_all, flat_map, filter}
-use Rattle.vx_flow.specs.declared.graph.Op.TheVariants.{Compute, Select, Place, Load, Store, More, Input, Text, Decimal, Across}
+use Rattle.vx_flow.specs.declared.graph.Op.TheVariants.{Compute, Select, Place, Load, Store, More, Input, Text, Decimal, Across, Base, PlaceIn}
 use Rattle.vx_flow.specs.declared.trace.Homes.{Homes}
 use Rattle.vx_flow.specs.Effects.{dismissed}
 use Rattle.vx_isa.specs.declared.operation.UnitKind.{UnitKind}
@@ -49,6 +49,8 @@ same_needs (Plain (Input v)) = itself (Plain (Input v))
 same_needs (Plain (Text n)) = itself (Plain (Text n))
 same_needs (Plain (Decimal x)) = itself (Plain (Decimal x))
 same_needs (Plain (Across v u)) = itself (Plain (Across v u))
+same_needs (Plain (Base v a x)) = itself (Plain (Base v a x))
+same_needs (Plain (PlaceIn v a u i)) = itself (Plain (PlaceIn v a u i))
 same_needs (Split p) = itself (Split p)
 
 -- lists

@@ -2,7 +2,7 @@
 use Rattle.std.proofs.Common.{◌≡◌, inl, inr, ℕ, true, ◌&&◌, Option, List, [], ◌∷◌, ◌++◌, map, count_by, nat_le, refl, sym, ap, ◌∙◌}
 use Rattle.std.specs.List.{list_all, flat_map, filter}
 use Rattle.vx_flow.specs.declared.graph.Op.{Op}
-use Rattle.vx_flow.specs.declared.graph.Op.TheVariants.{Compute, Select, Place, Load, Store, More, Input, Text, Decimal, Across}
+use Rattle.vx_flow.specs.declared.graph.Op.TheVariants.{Compute, Select, Place, Load, Store, More, Input, Text, Decimal, Across, Base, PlaceIn}
 use Rattle.vx_flow.specs.declared.trace.Homes.{Homes}
 use Rattle.vx_flow.specs.Effects.{IsIn}
 use Rattle.vx_isa.specs.declared.operation.UnitKind.TheVariants.{Alu, Multiply, Memory, Copies}
@@ -41,6 +41,8 @@ module _ (homes homes' : List (Option ℕ)) where
   source_same (Text n) cluster k h = refl
   source_same (Decimal x) cluster k h = refl
   source_same (Across v u) cluster k h = h v u refl
+  source_same (Base v a x) cluster k h = refl
+  source_same (PlaceIn v a u i) cluster k h = refl
 
   clusters_same : (item : Item) (word : List Item) → Same (item ∷ word) → read_clusters (homes_in homes') (item_in item) ≡ read_clusters (homes_in homes) (item_in item)
   clusters_same (Plain op cluster) word h =

@@ -9,7 +9,7 @@ use Rattle.vx_base.specs.declared.arithmetic.Code.TheVariants.{ToBranch}
 use Rattle.vx_flow.specs.declared.graph.Bank.TheVariants.{General, Branch}
 use Rattle.vx_flow.specs.declared.graph.Graph.{Graph}
 use Rattle.vx_flow.specs.declared.graph.Op.{Op}
-use Rattle.vx_flow.specs.declared.graph.Op.TheVariants.{Compute, Select, Place, Load, Store, More, Input, Text, Decimal, Across}
+use Rattle.vx_flow.specs.declared.graph.Op.TheVariants.{Compute, Select, Place, Load, Store, More, Input, Text, Decimal, Across, Base, PlaceIn}
 use Rattle.vx_flow.specs.declared.graph.Operand.{Operand}
 use Rattle.vx_flow.specs.declared.graph.Operand.TheVariants.{Held, Number, Stack}
 use Rattle.vx_flow.specs.declared.trace.TraceOp.TheVariants.{Plain}
@@ -45,6 +45,8 @@ arrays_whole n op = by op
     by (Place v a i) = refl
     by (Load v a p d) = refl
     by (Store a p x) = refl
+    by (Base v a x) = refl
+    by (PlaceIn v a u i) = refl
     by op = refl
 
 tests_dismissed : (op : Op) → tests_of (dismissed op) ≡ tests_of op
@@ -100,6 +102,8 @@ held_operand n v (Input w) not h = absurd h
 held_operand n v (Text k) not h = absurd h
 held_operand n v (Decimal x) not h = one_of n v x (operands_of (whole_op n (Decimal x))) h (inl refl)
 held_operand n v (Across w u) not h = absurd (not w u refl)
+held_operand n v (Base w a x) not h = absurd h
+held_operand n v (PlaceIn w a u i) not h = two_of n v i (Held u) (operands_of (whole_op n (PlaceIn w a u i))) h (inl refl) (inr (inl refl))
 
 -- what is known: the bank of a copy is that of its value
 
@@ -123,6 +127,8 @@ not_across graph sound op origin same not v u e = by origin not (ap (λ z. dismi
     by (Text k) n q = cc
     by (Decimal x) n q = cc
     by (Across w x) n q = n w x refl
+    by (Base w a x) n q = cc
+    by (PlaceIn w a u i) n q = cc
 
 pub copy_is_whole : (n u k : ℕ) → u < n → copy_of n u k % n ≡ u
 copy_is_whole n u k lt = let e : suc k ≡ k + 1 = omega arith in ap (λ z. (z * n + u) % n) e ∙ mod-mul-add (k + 1) n u lt
@@ -170,3 +176,5 @@ read_kind v (Input w) h = inl h
 read_kind v (Text n) h = inl h
 read_kind v (Decimal x) h = inl h
 read_kind v (Across w u) h = inl h
+read_kind v (Base w a x) h = inl h
+read_kind v (PlaceIn w a u i) h = inl h

@@ -16,7 +16,7 @@ use Rattle.vx_flow.specs.declared.graph.Exit.{Exit}
 use Rattle.vx_flow.specs.declared.graph.Exit.TheVariants.{Goto, Split as Branches, Call, Return, Ends}
 use Rattle.vx_flow.specs.declared.graph.Graph.{Graph}
 use Rattle.vx_flow.specs.declared.graph.Op.{Op}
-use Rattle.vx_flow.specs.declared.graph.Op.TheVariants.{Compute, Select, Place, Load, Store, More, Input, Text, Decimal, Across}
+use Rattle.vx_flow.specs.declared.graph.Op.TheVariants.{Compute, Select, Place, Load, Store, More, Input, Text, Decimal, Across, Base, PlaceIn}
 use Rattle.vx_flow.specs.declared.graph.Operand.{Operand}
 use Rattle.vx_flow.specs.Effects.{IsIn, reads, writes}
 use Rattle.vx_flow.specs.Live.{reads_of_exit}
@@ -27,7 +27,7 @@ use Rattle.vx_mixed.specs.declared.mixed.MixedGraph.{MixedGraph}
 use Rattle.vx_mixed.specs.Edges.{IsEdge, of_block, of_split, of_last}
 use Rattle.vx_mixed.specs.FromGraph.{FromGraph}
 use Rattle.vx_mixed.specs.Valid.{TestsBranch, is_entrance, IsOp, block_op, region_op, Names, Valid, IsGraphEdge, CanBegin}
-use Rattle.vx_mixed.proofs.Begins.{bank_below, Below, both_below, op_below, exit_below, get_in, all_in, node_is, is_block, no_entry, no_region}
+use Rattle.vx_mixed.proofs.Begins.{bank_below, Below, both_below, op_below, exit_below, get_in, all_in, node_is, is_block, no_entry, no_region, sound_op, sound_blocks}
 
 module _ (banks : List Bank) where
   one_below : (v : ℕ) (bank : Bank) → is_bank bank (slice_get banks v) ≡ true → Below banks (v ∷ [])
@@ -70,6 +70,11 @@ module _ (banks : List Bank) where
   writes_below n (Text k) h = λ u q. absurd q
   writes_below n (Decimal x) h = λ u q. absurd q
   writes_below n (Across v u) h = absurd (cc)
+  writes_below n (Base v a x) h = one_below v General (and_parts (is_general banks v) (nat_lt a n) h).0
+  writes_below n (PlaceIn v a u i) h =
+      let x = and_parts (is_general banks v && nat_lt a n && is_general banks u) (is_operand banks i) h in
+      let y = and_parts (is_general banks v && nat_lt a n) (is_general banks u) x.0 in
+      one_below v General (and_parts (is_general banks v) (nat_lt a n) y.0).0
 
   result_below : (result : Option ℕ) (g next : ℕ) (arguments : List Operand) → is_general_or_none banks result ≡ true → Below banks (results_of_exit (Call g arguments result next))
   result_below None g next arguments h = λ v q. absurd q
@@ -123,13 +128,10 @@ module _ (graph : Graph) (m : MixedGraph) (sound : is_sound graph ≡ true) (can
   block_sound : (b : ℕ) (k : Block) → slice_get graph.blocks b ≡ Some k → (list_all (is_sound_in graph) k.ops ≡ true) × (is_sound_exit graph.banks (length graph.blocks) k.exit ≡ true)
   block_sound b k e =
       and_parts (list_all (is_sound_in graph) k.ops) (is_sound_exit graph.banks (length graph.blocks) k.exit)
-      (get_in (is_sound_block graph) graph.blocks b k (and_parts (list_all (is_general graph.banks) graph.parameters) (list_all (is_sound_block graph) graph.blocks) sound).1 e)
+      (get_in (is_sound_block graph) graph.blocks b k (sound_blocks graph sound) e)
 
   op_sound : (op : Op) (ops : List Op) → list_all (is_sound_in graph) ops ≡ true → IsIn op ops → is_sound_operation graph.banks (length graph.arrays) op ≡ true
-  op_sound op ops all i =
-      let h = all_in (is_sound_in graph) ops op all i in
-      let z = and_parts (is_sound_operation graph.banks (length graph.arrays) op && is_kept graph op) (is_access_placed graph op) h in
-      (and_parts (is_sound_operation graph.banks (length graph.arrays) op) (is_kept graph op) z.0).0
+  op_sound op ops all i = sound_op graph op (all_in (is_sound_in graph) ops op all i)
 
   graph_edge : (e : Edge) → IsEdge m e → IsGraphEdge graph e
   graph_edge e (of_block {block = k} at t) = record { block = k; has = here e.from k at; leads = t }
