@@ -1,3 +1,2 @@
 pub mod SeatSteps
 pub mod Showing
-pub mod Spots

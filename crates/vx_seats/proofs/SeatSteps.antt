@@ -2,7 +2,7 @@
 use Rattle.std.proofs.Common.{◌+◌, ◌*◌, ℕ, ℤ, Some, List, length, refl, sym, ap, ◌∙◌, subst, arith}
 use Rattle.vx_flow.specs.declared.graph.Flow.{Flow}
 use Rattle.vx_flow.specs.Effects.{Content, IsIn}
-use Rattle.vx_flow.specs.Meaning.{spot_of}
+use Rattle.vx_flow.specs.Meaning.{spot_in}
 use Rattle.vx_flow.specs.Sound.{SoundFlow, is_sound_flow}
 use Rattle.vx_flow.proofs.SoundFlowLaw.{told}
 use Rattle.vx_isa.specs.Machine.{stored}
@@ -34,14 +34,16 @@ module _ (T : Target) (flow : Flow) (ls : List VWords) (sound : SoundFlow flow) 
     seated = seated_on T flow.globals stack rows memory (stored memory (4 * word) n) (λ k j has. store_off memory word (seat T flow.globals stack k + j) n (λ e. its_table.free x word k j i framed has (sym e))) s.seated;
   }
 
-  arrays_of : (x : Stacked) → IsIn x stack → Arrays T (length flow.globals) memory x.frame x.base x.function rows
+  arrays_of : (x : Stacked) → IsIn x stack → Arrays T (length flow.globals) memory (seat T flow.globals stack) x rows
   arrays_of x m = record {
-    row = λ a array has.
-        let size = its_table.sizes x a array m has in
+    row = λ a array has bare.
+        let size = its_table.sizes x a array m has bare in
         record {
           size = size;
-          is = λ i n lt e. ap (λ b. word_at memory (b + i)) (its_table.begins x a array m has) ∙ its_table.known (spot_of (length flow.globals) x.base a) i n (omega arith) e;
+          is = λ i n lt e. ap (λ b. word_at memory (b + i)) (its_table.begins x a array m has bare) ∙ its_table.known (spot_in (length flow.globals) x.passed x.base a) i n (omega arith) e;
         };
+    handed = λ a array has. record { size = refl; is = λ i n lt e. its_table.known (spot_in (length flow.globals) x.passed x.base a) i n lt e };
+    stands = λ a array has. its_table.stands x a array m has;
   }
 
 pub table_law : TableLaw
@@ -54,10 +56,10 @@ pub slot_law : SlotLaw
 slot_law T flow ls sound frames from stack rows memory s x word n i framed = slot_kept T flow ls ((told flow (is_sound_flow flow) refl).0 sound) frames from stack rows memory s x word n i framed
 
 pub entered_law : EnteredLaw
-entered_law T flow ls sound frames from stack rows memory s g is high = record {
-  stacked = entered_stack T flow ls stack from rows g is s.stacked;
+entered_law T flow ls sound frames from stack rows memory s g passed is was high = record {
+  stacked = entered_stack T flow ls stack from rows g passed is was s.stacked;
   above = high;
-  seated = entered_seated T flow ls stack (from + T.frame) rows memory g from s.stacked s.seated;
+  seated = entered_seated T flow ls stack (from + T.frame) rows memory g from passed s.stacked s.seated;
 }
 
 pub returned_law : ReturnedLaw

@@ -1,4 +1,3 @@
 pub mod Arrays
-pub mod Given
 pub mod SeatLaws
 pub mod Shown

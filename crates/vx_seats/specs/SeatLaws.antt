@@ -1,5 +1,5 @@
 -- Laws of seats: a table of seats follows from where frames and arrays are, and each step of a run keeps it.
-use Rattle.std.specs.Prelude.{◌≡◌, ◌≤◌, ◌+◌, ◌*◌, ℕ, ℤ, true, Some, List, ◌∷◌, ◌++◌, length, map, take, slice_set}
+use Rattle.std.specs.Prelude.{◌≡◌, ◌≤◌, ◌+◌, ◌*◌, ℕ, ℤ, true, Option, Some, List, ◌∷◌, ◌++◌, length, map, take, slice_set}
 use Rattle.vx_flow.specs.declared.graph.Flow.{Flow}
 use Rattle.vx_flow.specs.Effects.{Content, IsIn}
 use Rattle.vx_flow.specs.Meaning.{undefined, own_of}
@@ -7,7 +7,7 @@ use Rattle.vx_flow.specs.Sound.{is_sound_flow}
 use Rattle.vx_isa.specs.Machine.{stored}
 use Rattle.vx_mixed.specs.declared.layout.VWords.{VWords}
 use Rattle.vx_target.specs.Target.{Target}
-use Rattle.vx_target.specs.Tied.{Stacked, HasCell, IsFunction, IsStack, Seated, row_in, seat}
+use Rattle.vx_target.specs.Tied.{Stacked, WasPassed, HasCell, IsFunction, IsStack, Seated, row_in, seat}
 use Rattle.vx_target.specs.Seats.{HasFrames, Framed, Seats}
 use Rattle.vx_seats.specs.Arrays.{Arrays}
 
@@ -38,12 +38,13 @@ SlotLaw =
     (T : Target) (flow : Flow) (ls : List VWords) → is_sound_flow flow ≡ true → HasFrames T flow ls → (from : ℕ) (stack : List Stacked) (rows : List (List Content)) (memory : ℕ → ℤ) → InStack T flow ls from stack rows memory →
     (x : Stacked) (word : ℕ) (n : ℤ) → IsIn x stack → Framed T x word → InStack T flow ls from stack rows (stored memory (4 * word) n)
 
--- a function is entered: its frame is the one below, and its own arrays, undefined, are the rows behind those that were there
+-- a function is entered: its frame is the one below, its own arrays, undefined, are the rows behind those that were there, and what is
+-- passed to it are rows in front of these
 abbrev pub EnteredLaw : Type 0
 EnteredLaw =
     (T : Target) (flow : Flow) (ls : List VWords) → is_sound_flow flow ≡ true → HasFrames T flow ls → (from : ℕ) (stack : List Stacked) (rows : List (List Content)) (memory : ℕ → ℤ) → InStack T flow ls (from + T.frame) stack rows memory →
-    (g : ℕ) → IsFunction T flow ls g → T.globals ≤ from →
-    InStack T flow ls from (record { function = g; frame = from; base = length rows } ∷ stack) (rows ++ map undefined (own_of (length flow.globals) (T.graph g))) memory
+    (g : ℕ) (passed : List (Option ℕ)) → IsFunction T flow ls g → WasPassed T (length flow.globals) (record { function = g; frame = from; passed = passed; base = length rows }) → T.globals ≤ from →
+    InStack T flow ls from (record { function = g; frame = from; passed = passed; base = length rows } ∷ stack) (rows ++ map undefined (own_of (length flow.globals) (T.graph g))) memory
 
 -- and it returns: its rows go
 abbrev pub ReturnedLaw : Type 0
@@ -55,4 +56,4 @@ ReturnedLaw =
 abbrev pub ArraysLaw : Type 0
 ArraysLaw =
     (T : Target) (flow : Flow) (ls : List VWords) → is_sound_flow flow ≡ true → HasFrames T flow ls → (from : ℕ) (stack : List Stacked) (rows : List (List Content)) (memory : ℕ → ℤ) → InStack T flow ls from stack rows memory →
-    (x : Stacked) → IsIn x stack → Arrays T (length flow.globals) memory x.frame x.base x.function rows
+    (x : Stacked) → IsIn x stack → Arrays T (length flow.globals) memory (seat T flow.globals stack) x rows

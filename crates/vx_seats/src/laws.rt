@@ -1,6 +1,6 @@
 // Laws of seats, each the clause of a function that does nothing.
 
-ghost use Rattle.vx_seats.specs.Given.{GivenSpotsLaw, OwnSpotsLaw, OwnedLaw, SpotsApartLaw};
+ghost use Rattle.vx_target.specs.Given.{GivenSpotsLaw, OwnSpotsLaw, OwnedLaw, SpotsApartLaw};
 ghost use Rattle.vx_seats.specs.SeatLaws.{ArraysLaw, EnteredLaw, ReturnedLaw, SlotLaw, StoreLaw, TableLaw};
 ghost use Rattle.vx_seats.specs.Shown.{PassedLaw, ShownLaw};
 

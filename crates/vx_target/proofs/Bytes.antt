@@ -1,11 +1,11 @@
 -- Addresses in bytes of words counted by 4: sums of them do not wrap.
-use Rattle.std.proofs.Common.{◌≡◌, ℕ, ◌+◌, ◌*◌, ◌%◌, ◌^◌, ◌<◌, ℤ, pos, ◌+ℤ◌, true, refl, sym, ap, ◌∙◌, arith, eqb}
+use Rattle.std.proofs.Common.{◌≡◌, ℕ, ◌+◌, ◌*◌, ◌%◌, ◌^◌, ◌<◌, ℤ, pos, ◌+ℤ◌, true, refl, sym, ap, ◌∙◌, subst, arith, eqb}
 use Rattle.std.proofs.lemmas.Bool.{le-leb, eq-eqb, and_from}
 use Rattle.std.proofs.Math.Nat.{mod-eq_of_lt}
 use Rattle.std.specs.Int.{w32}
 use Rattle.std.proofs.lemmas.Int.{ints, int_wrap-add_left, int_wrap-add_right}
-use Rattle.vx_base.specs.Arithmetic.{wrap, unsigned, sum_of, sh2add_of, product_of}
-use Rattle.vx_base.proofs.WrapLaws.{unsigned-pos, unsigned-wrap}
+use Rattle.vx_base.specs.Arithmetic.{IsNumber, wrap, unsigned, sum_of, sh2add_of, product_of}
+use Rattle.vx_base.proofs.WrapLaws.{unsigned-pos, unsigned-wrap, sum_of-exact}
 use Rattle.vx_isa.specs.Machine.{is_word_of}
 
 pub unsigned_small : (n : ℕ) → n < 2 ^ 32 → unsigned (pos n) ≡ n
@@ -31,6 +31,12 @@ sum_of_sum a b c = sum_is a (sum_of b c) ∙ ap (λ z. wrap (a +ℤ z)) (sum_is 
 
 pub address_of_sum : (a b c : ℕ) → a + (b + c) < 2 ^ 32 → unsigned (sum_of (pos a) (sum_of (pos b) (pos c))) ≡ a + (b + c)
 address_of_sum a b c h = ap unsigned (sum_of_sum (pos a) (pos b) (pos c)) ∙ unsigned-wrap (pos a +ℤ (pos b +ℤ pos c)) ∙ unsigned_small (a + (b + c)) h
+
+-- an address with an offset, where both are words of a small memory
+pub sum_up : (a b : ℕ) → a + b < 2 ^ 31 → sum_of (pos a) (pos b) ≡ pos (a + b)
+sum_up a b h =
+    let z : pos a +ℤ pos b ≡ pos (a + b) = omega (arith, ints) in
+    sum_of-exact (pos a) (pos b) (subst IsNumber (sym z) (record { sfits = omega arith })) ∙ z
 
 -- a place, with an address or with 0 added
 pub place_with : (i a : ℤ) → sh2add_of i a ≡ sum_of (product_of (pos 4) i) a

@@ -11,7 +11,7 @@ use Rattle.vx_flow.specs.declared.graph.Bank.TheVariants.{General as GeneralBank
 use Rattle.vx_flow.specs.declared.graph.Operand.{Operand}
 use Rattle.vx_flow.specs.declared.graph.Operand.TheVariants.{Held, Number, Stack}
 use Rattle.vx_flow.specs.declared.graph.Op.{Op}
-use Rattle.vx_flow.specs.declared.graph.Op.TheVariants.{Compute, Select, Place, Load, Store, More, Input, Text, Decimal, Across}
+use Rattle.vx_flow.specs.declared.graph.Op.TheVariants.{Compute, Select, Place, Load, Store, More, Input, Text, Decimal, Across, Base, PlaceIn}
 use Rattle.vx_flow.specs.declared.trace.Homes.{Homes}
 use Rattle.vx_flow.specs.Effects.{IsIn, is_unary, value_in, reads, writes}
 use Rattle.vx_flow.specs.Sound.{Sound, operands_of}
@@ -33,7 +33,7 @@ use Rattle.vx_mixed.specs.Settled.{stands_for}
 use Rattle.vx_mixed.specs.LaidSettled.{bank_in, or_zero, item_reads, item_writes, laid_reads, laid_writes, Plans}
 use Rattle.vx_target.specs.Target.{Target, is_branch, same_file, same_bool, home, holds_branch, scratch, slotted, kept, is_slotted}
 use Rattle.vx_target.specs.Carried.{IsMapped, item_of_laid}
-use Rattle.vx_target.proofs.Proper.{PlainOperand, PlaceIn, ProperOp, ProperItems}
+use Rattle.vx_target.proofs.Proper.{PlainOperand, IsPlacedIn, ProperOp, ProperItems}
 use Rattle.vx_target.proofs.Live.{across_of}
 use Rattle.vx_target.proofs.Names.{Few, Filed, filed, index_below}
 use Rattle.vx_target.proofs.Limits.{limits}
@@ -258,6 +258,8 @@ module _ (T : Target) (f : ℕ) (mapped : IsMapped T f) (sound : Sound (T.graph 
   one_write (Text n) = inl refl
   one_write (Decimal x) = inl refl
   one_write (Across v u) = inr (v, refl)
+  one_write (Base v a x) = inr (v, refl)
+  one_write (PlaceIn v a u i) = inr (v, refl)
 
   in_all : (g : Laid → List ℕ) (x : Laid) (v : ℕ) (xs : List Laid) → IsIn x xs → IsIn v (g x) → IsIn v (flat_map g xs)
   in_all g x v [] i j = absurd i
@@ -358,6 +360,13 @@ module _ (T : Target) (f : ℕ) (mapped : IsMapped T f) (sound : Sound (T.graph 
   item_general v (Split test y q) e i =
       let z = count_none (Same v) (test ∷ []) (λ u j. ⊎_elim (λ s. not_general v u e (ap (holds_branch T f) s ∙ proper_test test q y items proper i)) (λ s. absurd s) j) in omega arith
   item_general v (Plain (Across x y) k) e i = plain_general v (Across x y) k (count_one (Same v) y) (λ u j s. across_source v x y k u e i (⊎_elim (λ q. q) (λ q. absurd q) j) s)
+  item_general v (Plain (Base x a y) k) e i = plain_general v (Base x a y) k (omega arith) (λ u j s. absurd j)
+  item_general v (Plain (PlaceIn x a w y) k) e i =
+      let one = operand_port (Same v) y in
+      let two = count_one (Same v) w in
+      let c = ports_cons y (Held w ∷ []) in
+      let d = count_by-append (Same v) (value_in y) (w ∷ []) in
+      plain_general v (PlaceIn x a w y) k (omega arith) (λ u j s. read_cluster v (PlaceIn x a w y) k u e i j s (mapped.settled.reads_home p u k (PlaceIn x a w y) items plans i j))
   item_general v (Plain (Compute code x a b) k) e i = plain_general v (Compute code x a b) k (compute_ports (Same v) code x a b) (λ u j s. read_cluster v (Compute code x a b) k u e i j s (mapped.settled.reads_home p u k (Compute code x a b) items plans i j))
   item_general v (Plain (Select x t a b) k) e i =
       let no_test : bit (Same v t) ≡ 0 = ap bit (not_general v t e (proper_op (Select x t a b) k items proper i).1.1) in
@@ -395,7 +404,7 @@ module _ (T : Target) (f : ℕ) (mapped : IsMapped T f) (sound : Sound (T.graph 
   operand_general (Number n) h u i = absurd i
   operand_general Stack h u i = absurd i
 
-  place_general : (a : ℕ) (x : Operand) → PlaceIn T f IsArray a x → (u : ℕ) → IsIn u (value_in x) → holds_branch T f u ≡ false
+  place_general : (a : ℕ) (x : Operand) → IsPlacedIn T f IsArray a x → (u : ℕ) → IsIn u (value_in x) → holds_branch T f u ≡ false
   place_general a (Held y) h u i = ⊎_elim (λ e. ap (holds_branch T f) e ∙ h.1) (λ j. absurd j) i
   place_general a (Number n) h u i = absurd i
   place_general a Stack h u i = absurd i
@@ -416,6 +425,10 @@ module _ (T : Target) (f : ℕ) (mapped : IsMapped T f) (sound : Sound (T.graph 
   item_branch : (v : ℕ) (x : Laid) → holds_branch T f v ≡ true → IsIn x items → count_by (Same v) (item_reads x) ≤ bit (((item_of_laid x).cluster == 0) && true)
   item_branch v (Split test y q) e i = count_one (Same v) test
   item_branch v (Plain (Across x y) k) e i = all_general v (y ∷ []) _ e (λ u j. ⊎_elim (λ s. ap (holds_branch T f) s ∙ (proper_op (Across x y) k items proper i).2) (λ s. absurd s) j)
+  item_branch v (Plain (Base x a y) k) e i = all_general v [] _ e (λ u j. absurd j)
+  item_branch v (Plain (PlaceIn x a w y) k) e i =
+      let h = proper_op (PlaceIn x a w y) k items proper i in
+      all_general v (value_in y ++ w ∷ []) _ e (λ u j. ⊎_elim (operand_general y h.index u) (λ l. ⊎_elim (λ s. ap (holds_branch T f) s ∙ h.base_general) (λ z. absurd z) l) (in_either u (value_in y) (w ∷ []) j))
   item_branch v (Plain (Compute code x a b) k) e i = let h = proper_op (Compute code x a b) k items proper i in all_general v (reads (Compute code x a b)) _ e (compute_general code x a b h.2 h.3)
   item_branch v (Plain (Select x t a b) k) e i =
       let h = proper_op (Select x t a b) k items proper i in

@@ -7,7 +7,7 @@ use Rattle.vx_flow.specs.declared.graph.Array.{Array}
 use Rattle.vx_flow.specs.declared.graph.Global.{Global}
 use Rattle.vx_flow.specs.declared.graph.Flow.{Flow}
 use Rattle.vx_flow.specs.Effects.{IsIn}
-use Rattle.vx_flow.specs.Meaning.{Frame, spot_of, deepest}
+use Rattle.vx_flow.specs.Meaning.{Frame, spot_behind, spot_in, deepest}
 use Rattle.vx_flow.specs.Sound.{is_given, has_base, is_own as is_own_or_none, SoundFlow}
 use Rattle.vx_flow.specs.declared.graph.Operand.{Operand}
 use Rattle.vx_isa.specs.declared.operation.Register.TheVariants.{Link}
@@ -18,7 +18,7 @@ use Rattle.vx_mixed.specs.declared.layout.VWords.{VWords}
 use Rattle.vx_mixed.specs.LaidSettled.{LeadsTo}
 use Rattle.vx_regs.specs.Intervals.{IsLive, is_live}
 use Rattle.vx_target.specs.Target.{Target, is_own, is_call_word, is_caller, is_slotted, kept, past_there, past_from, most_transfers, past, memory_words}
-use Rattle.vx_target.specs.Tied.{Stacked, waiting_above, Shows, begins_at, words_before, IsFunction, IsResult, Below, Deep, word_at, link_in}
+use Rattle.vx_target.specs.Tied.{Stacked, waiting_at, waiting_above, there_of, Shows, begins_at, words_before, IsFunction, IsResult, Below, Deep, word_at, link_in}
 use Rattle.vx_target.specs.Carried.{CallsAt, IsSaved, NeedsSlot, is_saved, is_spilled, IsFramed}
 use Rattle.vx_target.specs.Seats.{Framed, is_link, is_slot}
 use Rattle.vx_target.proofs.Names.{in_register}
@@ -91,6 +91,11 @@ before_all [] a i x e h = absurd (cc)
 before_all (g ∷ gs) zero i x e h = let q : g.words ≡ x.words = (let z : g ≡ x = cc in ap (λ y. y.words) z) in omega arith
 before_all (g ∷ gs) (suc a) i x e h = let k = before_all gs a i x e h in omega arith
 
+pub before_le : (gs : List Global) (a : ℕ) → a ≤ length gs → words_before gs a ≤ words_before gs (length gs)
+before_le [] a h = omega arith
+before_le (g ∷ gs) zero h = omega arith
+before_le (g ∷ gs) (suc a) h = let k = before_le gs a (omega arith) in omega arith
+
 pub before_apart : (gs : List Global) (a b i j : ℕ) (x y : Global) → slice_get gs a ≡ Some x → slice_get gs b ≡ Some y → i < x.words → j < y.words → words_before gs a + i ≡ words_before gs b + j → (a ≡ b) × (i ≡ j)
 before_apart [] a b i j x y ea eb hi hj e = absurd (cc)
 before_apart (g ∷ gs) zero zero i j x y ea eb hi hj e = (refl, omega arith)
@@ -135,17 +140,30 @@ module _ (T : Target) (flow : Flow) (some_frame : 1 ≤ T.frame) (globals_are : 
       pub has : slice_get flow.globals a ≡ Some item
       pub words : array.words ≡ item.words
       pub begins : (sp : ℕ) → begins_at T sp f a ≡ words_before flow.globals a
-      pub spot : (base : ℕ) → spot_of Globals base a ≡ a
+      pub spot : (passed : List (Option ℕ)) (base : ℕ) → spot_in Globals passed base a ≡ a
 
-    pub record IsLocal (a : ℕ) : Type 0 where
+    -- an array of its own
+    pub record IsLocal (a : ℕ) (array : Array) : Type 0 where
       pub from : Globals ≤ a
+      pub bare : array.base ≡ None
       pub begins : (sp : ℕ) → begins_at T sp f a ≡ sp + T.array_at f a
-      pub spot : (base : ℕ) → spot_of Globals base a ≡ base + (a - Globals)
 
-    pub array_kind : (a : ℕ) (array : Array) → HasArray f a array → IsGlobal a array ⊎ IsLocal a
+    -- one that was handed over
+    pub record IsHanded (a : ℕ) (array : Array) : Type 0 where
+      pub from : Globals ≤ a
+      pub value : ℕ
+      pub base : array.base ≡ Some value
+
+    pub array_kind : (a : ℕ) (array : Array) → HasArray f a array → IsGlobal a array ⊎ (IsLocal a array ⊎ IsHanded a array)
     array_kind a array has = by (ltb a Globals) refl
       where
-        by : (b : Bool) → ltb a Globals ≡ b → IsGlobal a array ⊎ IsLocal a
+        behind : Globals ≤ a → (base : Option ℕ) → array.base ≡ base → IsLocal a array ⊎ IsHanded a array
+        behind ge None bare =
+            let own : is_own T f a ≡ true = ap is_own_or_none has ∙ is_owned array.global array.base (sound.own (T.graph f) a array graph_in has ge) bare in
+            inl (record { from = ge; bare = bare; begins = λ sp. ap (λ b. if b then sp + T.array_at f a else T.array_at f a) own })
+        behind ge (Some v) e = inr (record { from = ge; value = v; base = e })
+
+        by : (b : Bool) → ltb a Globals ≡ b → IsGlobal a array ⊎ (IsLocal a array ⊎ IsHanded a array)
         by true e =
             let lt = ltb-true a Globals e in
             let x = get_some flow.globals a lt in
@@ -158,17 +176,9 @@ module _ (T : Target) (flow : Flow) (some_frame : 1 ≤ T.frame) (globals_are : 
               has = x.1;
               words = ap (λ y. y.words) (sym same) ∙ g.size;
               begins = λ sp. ap (λ b. if b then sp + T.array_at f a else T.array_at f a) own ∙ framed.globals a lt;
-              spot = λ base. ap (λ b. if b then a else base + (a - Globals)) e;
+              spot = λ passed base. ap (λ b. if b then a else spot_behind passed base (a - Globals)) e;
             })
-        by false e =
-            let ge : Globals ≤ a = ltb-false a Globals e in
-            let kept = sound.own (T.graph f) a array graph_in has ge in
-            let own : is_own T f a ≡ true = ap is_own_or_none has ∙ is_owned array.global array.base kept.0 kept.1 in
-            inr (record {
-              from = ge;
-              begins = λ sp. ap (λ b. if b then sp + T.array_at f a else T.array_at f a) own;
-              spot = λ base. ap (λ b. if b then a else base + (a - Globals)) e;
-            })
+        by false e = inr (behind (ltb-false a Globals e) array.base refl)
 
 -- functions that wait
 
@@ -185,7 +195,7 @@ pub below_keep : (T : Target) (flow : Flow) (ls : List VWords) (saved : (f : ℕ
     ((x : Stacked) (word : ℕ) → IsIn x (waiting_above T sp frs) → Framed T x word → word_at memory' word ≡ word_at memory word) → Below T flow ls memory sp frs → Below T flow ls memory' sp frs
 below_keep T flow ls saved [] memory memory' sp same b = tt
 below_keep T flow ls saved (fr ∷ frs) memory memory' sp same b =
-    let here : Stacked = record { function = fr.function; frame = sp + T.frame; base = fr.base } in (
+    let here : Stacked = waiting_at (sp + T.frame) fr in (
       record {
         is = b.0.is;
         caller = b.0.caller;
@@ -196,8 +206,7 @@ below_keep T flow ls saved (fr ∷ frs) memory memory' sp same b =
         next = b.0.next;
         values = λ v n live other e. (let s = b.0.values v n live other e in
             let needs = waiting_needs T fr.function b.0.caller b.0.callee v b.0.arguments fr.result (saved fr.function b.0.is) b.0.called live other in
-            subst (λ x. Shows T (sp + T.frame) fr.function v n x) (sym (same here (sp + T.frame + T.slot fr.function v) (inl refl) (is_slot v needs refl))) s);
-        passed = b.0.passed;
+            subst (λ x. Shows T (there_of T flow.globals (sp + T.frame) fr frs) fr.function v n x) (sym (same here (sp + T.frame + T.slot fr.function v) (inl refl) (is_slot v needs refl))) s);
         link = same here (sp + T.frame) (inl refl) (is_link refl) ∙ b.0.link;
       },
       below_keep T flow ls saved frs memory memory' (sp + T.frame) (λ x word i framed. same x word (inr i) framed) b.1,

@@ -21,7 +21,7 @@ use Rattle.vx_mixed.specs.Meaning.{into, leaves_on, picked}
 use Rattle.vx_layout.specs.Laid.{laid_effect, laid_next}
 use Rattle.vx_mixed.specs.LaidSettled.{laid_reads, laid_writes}
 use Rattle.vx_target.specs.Target.{Target, branch_of, register_of, carried, carried_items, leads, slotted}
-use Rattle.vx_target.specs.Tied.{Shows, HasCell, word_at}
+use Rattle.vx_target.specs.Tied.{Seating, Shows, HasCell, word_at}
 use Rattle.vx_target.proofs.Cells.{same_or_not, SameShape, shape_on}
 use Rattle.vx_target.proofs.Calm.{seen, put_to, put_at, put_off, given}
 use Rattle.vx_target.proofs.Forms.{one_alike, memory_on}
@@ -57,18 +57,18 @@ in_one v y xs ys e i = subst (λ z. IsIn v (z ++ ys)) e i
 is_one_of : (y : ℕ) (xs ys : List ℕ) → xs ≡ y ∷ [] → IsIn y (xs ++ ys)
 is_one_of y xs ys e = subst (λ z. IsIn y (z ++ ys)) (sym e) (inl refl)
 
-module _ (T : Target) (w : WordProgram) (f sp : ℕ) (setting : Setting) (seats : ℕ → ℕ) (IsArray : ℕ → Type 0) (rs ws : List ℕ) (s : VState) (u : State) (p : ℕ) where
+module _ (T : Target) (w : WordProgram) (f : ℕ) (here : Seating) (setting : Setting) (IsArray : ℕ → Type 0) (rs ws : List ℕ) (s : VState) (u : State) (p : ℕ) where
   abbrev pub Ops : List Laid → List Operation
   Ops items = carried_items T f p rs ws items
 
   abbrev pub OpDone : Op → Operation → VState → VState → Type 0
-  OpDone op o t t1 = Done T w f sp setting seats IsArray rs ws s u op o t t1
+  OpDone op o t t1 = Done T w f here setting IsArray rs ws s u op o t t1
 
   abbrev pub Wrought : Op → Operation → VState → VState → Type 0
-  Wrought op o t t1 = Wrote T w f sp setting seats IsArray rs ws s u op o t t1
+  Wrought op o t t1 = Wrote T w f here setting IsArray rs ws s u op o t t1
 
   abbrev pub Shown : List (List Content) → (ℕ → ℤ) → Type 0
-  Shown rows memory = Standing T w f sp setting seats IsArray rs ws s u rows memory
+  Shown rows memory = Standing T w f here setting IsArray rs ws s u rows memory
 
   -- the items do something from t to t1, one after the other
   abbrev pub Ran : List Laid → VState → VState → Type 0
@@ -76,16 +76,16 @@ module _ (T : Target) (w : WordProgram) (f sp : ℕ) (setting : Setting) (seats 
   Ran (Plain op k ∷ items) t t1 = (t' : VState) × OpDone op (carried T f rs ws k op) t t' × Ran items t' t1
   Ran (Split test y q ∷ items) t t1 = Ran items t t1
 
-  pub ran_items : Ready T w f sp setting seats IsArray rs ws s u → (items : List Laid) (t t1 : VState) → Right T f sp IsArray rs s u (laid_reads items) → ProperItems T f IsArray items → SameShape s.arrays t.arrays → laid_effect setting s items t ≡ Some t1 → Ran items t t1
+  pub ran_items : Ready T w f here setting IsArray rs ws s u → (items : List Laid) (t t1 : VState) → Right T f here IsArray rs s u (laid_reads items) → ProperItems T f IsArray items → SameShape s.arrays t.arrays → laid_effect setting s items t ≡ Some t1 → Ran items t t1
   ran_items ready [] t t1 right proper like e = cc
-  ran_items ready (Split test y q ∷ items) t t1 right proper like e = ran_items ready items t t1 (right_right T f sp IsArray rs s u (test ∷ []) (laid_reads items) right) proper.1 like e
+  ran_items ready (Split test y q ∷ items) t t1 right proper like e = ran_items ready items t t1 (right_right T f here IsArray rs s u (test ∷ []) (laid_reads items) right) proper.1 like e
   ran_items ready (Plain op k ∷ items) t t1 right proper like e =
-      by (effect setting s op t) refl e (λ t' l h. ran_items ready items t' t1 (right_right T f sp IsArray rs s u (reads op) (laid_reads items) right) proper.1 l h)
+      by (effect setting s op t) refl e (λ t' l h. ran_items ready items t' t1 (right_right T f here IsArray rs s u (reads op) (laid_reads items) right) proper.1 l h)
     where
       by : (x : Option VState) → effect setting s op t ≡ x → into x (laid_effect setting s items) ≡ Some t1 → ((t' : VState) → SameShape s.arrays t'.arrays → laid_effect setting s items t' ≡ Some t1 → Ran items t' t1) → Ran (Plain op k ∷ items) t t1
       by None ex h more = absurd (cc)
       by (Some t') ex h more =
-          let d = op_done T w f sp setting seats IsArray rs ws s u ready op k t t' (right_left T f sp IsArray rs s u (reads op) (laid_reads items) right) proper.0 like ex in
+          let d = op_done T w f here setting IsArray rs ws s u ready op k t t' (right_left T f here IsArray rs s u (reads op) (laid_reads items) right) proper.0 like ex in
           (t', d, more t' (shape_on s.arrays t.arrays t'.arrays like d.shape) h)
 
   -- arrays
@@ -102,7 +102,7 @@ module _ (T : Target) (w : WordProgram) (f sp : ℕ) (setting : Setting) (seats 
       (rows_items items r.0 t1 (memory_after u (carried T f rs ws k op ∷ []) memory) r.2 (r.1.rows memory h))
   rows_items (Split test y q ∷ items) t t1 memory r h = rows_items items t t1 memory r h
 
-  pub elsewhere_items : (x : ℕ) (items : List Laid) (t t1 : VState) (memory : ℕ → ℤ) → Ran items t t1 → ((k i : ℕ) → HasCell s.arrays k i → x ≢ seats k + i) → word_at (memory_after u (Ops items) memory) x ≡ word_at memory x
+  pub elsewhere_items : (x : ℕ) (items : List Laid) (t t1 : VState) (memory : ℕ → ℤ) → Ran items t t1 → ((k i : ℕ) → HasCell s.arrays k i → x ≢ here.seats k + i) → word_at (memory_after u (Ops items) memory) x ≡ word_at memory x
   elsewhere_items x [] t t1 memory r h = refl
   elsewhere_items x (Plain op k ∷ items) t t1 memory r h =
       ap (λ m. word_at m x) (memory_on u (carried T f rs ws k op) (Ops items) memory)
@@ -148,20 +148,20 @@ module _ (T : Target) (w : WordProgram) (f sp : ℕ) (setting : Setting) (seats 
 
   -- the value's register holds its number
   abbrev pub Good : VState → (Register → ℤ) → ℕ → Type 0
-  Good t regs v = (n : ℤ) → t.values v ≡ Some n → Shows T sp f v n (seen regs (register_of T f ws v))
+  Good t regs v = (n : ℤ) → t.values v ≡ Some n → Shows T here f v n (seen regs (register_of T f ws v))
 
   values_case : (v : ℕ) (op : Op) (o : Operation) (rest : List ℕ) (t t' : VState) (regs : Register → ℤ) → Wrought op o t t' → is_zero (register_of T f ws v) ≡ false → ((y : ℕ) → IsIn y (writes op ++ rest) → y ≢ v → register_of T f ws v ≢ register_of T f ws y) → Good t regs v ⊎ IsIn v (writes op ++ rest) → Good t' (put_to (destination_of o) (number_of w.memory u o) regs) v ⊎ IsIn v rest
   values_case v op o rest t t' regs (no_value wn dn vn) zero_not apart h = ⊎_elim
-      (λ g. inl (λ n e. subst (λ d. Shows T sp f v n (seen (put_to d (number_of w.memory u o) regs) (register_of T f ws v))) (sym dn) (g n (sym (vn v) ∙ e))))
+      (λ g. inl (λ n e. subst (λ d. Shows T here f v n (seen (put_to d (number_of w.memory u o) regs) (register_of T f ws v))) (sym dn) (g n (sym (vn v) ∙ e))))
       (λ i. inr (in_nothing v (writes op) rest wn i)) h
-  values_case v op o rest t t' regs (one_value y x wv dv tv sh) zero_not apart h = ⊎_elim here other (same_or_not v y)
+  values_case v op o rest t t' regs (one_value y x wv dv tv sh) zero_not apart h = ⊎_elim named other (same_or_not v y)
     where
-      here : (eqb v y ≡ true) × (v ≡ y) → Good t' (put_to (destination_of o) (number_of w.memory u o) regs) v ⊎ IsIn v rest
-      here q = inl (λ n e.
+      named : (eqb v y ≡ true) × (v ≡ y) → Good t' (put_to (destination_of o) (number_of w.memory u o) regs) v ⊎ IsIn v rest
+      named q = inl (λ n e.
           let known : x ≡ Some n = sym (ap (λ b. if b then x else t.values v) q.0) ∙ sym (tv v) ∙ e in
           let is : seen (put_to (destination_of o) (number_of w.memory u o) regs) (register_of T f ws v) ≡ (number_of w.memory u o) =
           ap (λ d. seen (put_to d (number_of w.memory u o) regs) (register_of T f ws v)) (dv ∙ ap (λ z. Some (register_of T f ws z)) (sym q.1)) ∙ put_at (register_of T f ws v) (number_of w.memory u o) regs zero_not in
-          subst (λ z. Shows T sp f v n z) (sym is) (subst (λ z. Shows T sp f z n (number_of w.memory u o)) (sym q.1) (sh n known)))
+          subst (λ z. Shows T here f v n z) (sym is) (subst (λ z. Shows T here f z n (number_of w.memory u o)) (sym q.1) (sh n known)))
 
       other : (eqb v y ≡ false) × (v ≢ y) → Good t' (put_to (destination_of o) (number_of w.memory u o) regs) v ⊎ IsIn v rest
       other q = ⊎_elim
@@ -169,7 +169,7 @@ module _ (T : Target) (w : WordProgram) (f sp : ℕ) (setting : Setting) (seats 
           let was : t.values v ≡ Some n = sym (ap (λ b. if b then x else t.values v) q.0) ∙ sym (tv v) ∙ e in
           let is : seen (put_to (destination_of o) (number_of w.memory u o) regs) (register_of T f ws v) ≡ seen regs (register_of T f ws v) =
           ap (λ d. seen (put_to d (number_of w.memory u o) regs) (register_of T f ws v)) dv ∙ put_off (register_of T f ws y) (number_of w.memory u o) regs (register_of T f ws v) (apart y (is_one_of y (writes op) rest wv) (λ z. q.1 (sym z))) in
-          subst (λ z. Shows T sp f v n z) (sym is) (g n was)))
+          subst (λ z. Shows T here f v n z) (sym is) (g n was)))
           (λ i. ⊎_elim (λ z. absurd (q.1 z)) (λ j. inr j) (in_one v y (writes op) rest wv i)) h
 
   pub values_items : (v : ℕ) (items : List Laid) (t t1 : VState) (regs : Register → ℤ) → Ran items t t1 → is_zero (register_of T f ws v) ≡ false → ((y : ℕ) → IsIn y (laid_writes items) → y ≢ v → register_of T f ws v ≢ register_of T f ws y) → Good t regs v ⊎ IsIn v (laid_writes items) → Good t1 (given u w.memory (Ops items) regs) v
@@ -196,17 +196,17 @@ module _ (T : Target) (w : WordProgram) (f sp : ℕ) (setting : Setting) (seats 
   test_known y to q None next e = absurd (cc)
   test_known y to q (Some z) next e = (z, refl)
 
-  pub lead_items : (items : List Laid) (next q : ℕ) (t t1 : VState) → Ran items t t1 → Right T f sp IsArray rs s u (laid_reads items) → ProperItems T f IsArray items → laid_next s next items ≡ Some q → Went items next q (lead_of u (Ops items))
+  pub lead_items : (items : List Laid) (next q : ℕ) (t t1 : VState) → Ran items t t1 → Right T f here IsArray rs s u (laid_reads items) → ProperItems T f IsArray items → laid_next s next items ≡ Some q → Went items next q (lead_of u (Ops items))
   lead_items [] next q t t1 ran right proper e = straight (cc) refl
   lead_items (Plain op k ∷ items) next q t t1 ran right proper e =
-      went_on (Plain op k) items next q _ _ (ran.1.leads (Ops items)) (lead_items items next q ran.0 t1 ran.2 (right_right T f sp IsArray rs s u (reads op) (laid_reads items) right) proper.1 e)
+      went_on (Plain op k) items next q _ _ (ran.1.leads (Ops items)) (lead_items items next q ran.0 t1 ran.2 (right_right T f here IsArray rs s u (reads op) (laid_reads items) right) proper.1 e)
   lead_items (Split test y to ∷ items) next q t t1 ran right proper e =
       let z = test_known y to q (s.values test) (laid_next s next items) e in
-      let at : register u (Branch (record { cluster = 0; number = branch_of T f rs test })) ≡ z.0 = test_read T f sp IsArray rs s u test z.0 (right_left T f sp IsArray rs s u (test ∷ []) (laid_reads items) right) proper.0.0 proper.0.1 z.1 in
+      let at : register u (Branch (record { cluster = 0; number = branch_of T f rs test })) ≡ z.0 = test_read T f here IsArray rs s u test z.0 (right_left T f here IsArray rs s u (test ∷ []) (laid_reads items) right) proper.0.0 proper.0.1 z.1 in
       let took : picked (Some (is_taken y z.0)) None (Some to) (laid_next s next items) ≡ Some q =
       ap (λ b. picked (Some b) None (Some to) (laid_next s next items)) (sym (taken_alike y z.0)) ∙ ap (λ x. picked (leaves_on x y) None (Some to) (laid_next s next items)) (sym z.1) ∙ e in
       subst (λ x. Went (Split test y to ∷ items) next q (if is_taken y x then To (leads T f p (slotted T f ws) to) else lead_of u (Ops items))) (sym at)
-      (split_went test to y items next q (is_taken y z.0) took (λ h. lead_items items next q t t1 ran (right_right T f sp IsArray rs s u (test ∷ []) (laid_reads items) right) proper.1 h))
+      (split_went test to y items next q (is_taken y z.0) took (λ h. lead_items items next q t t1 ran (right_right T f here IsArray rs s u (test ∷ []) (laid_reads items) right) proper.1 h))
 
   -- input and output, where at most one operation meets them
 

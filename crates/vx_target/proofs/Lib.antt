@@ -2,6 +2,7 @@ pub mod Bytes
 pub mod Cells
 pub mod Calm
 pub mod Forms
+pub mod ValueKinds
 pub mod Proper
 pub mod Reading
 pub mod Op
@@ -13,6 +14,7 @@ pub mod Word
 pub mod Names
 pub mod FromGraph
 pub mod Frames
+pub mod Spots
 pub mod Owned
 pub mod SeatRoom
 pub mod SeatSteps

@@ -1,6 +1,6 @@
 -- One operation of a word: what it does to values, arrays, input and output, the operation that carries it does to registers,
 -- memory, input and output.
-use Rattle.std.proofs.Common.{◌≡◌, ◌≢◌, ◌<◌, ◌⊎◌, inl, inr, ◌+◌, ◌*◌, ◌^◌, ℕ, zero, suc, ℤ, pos, Bool, true, false, ◌&&◌, not, cond, Option, Some, None, List, [], ◌∷◌, ◌++◌, length, refl, sym, ap, ◌∙◌, subst, arith}
+use Rattle.std.proofs.Common.{◌≡◌, ◌≢◌, ◌<◌, ◌≤◌, ◌⊎◌, inl, inr, ◌+◌, ◌*◌, ◌^◌, ℕ, zero, suc, ℤ, pos, Bool, true, false, ◌&&◌, not, cond, Option, Some, None, List, [], ◌∷◌, ◌++◌, length, refl, sym, ap, ◌∙◌, subst, arith}
 use Rattle.std.specs.Prelude.{if◌then◌else◌, ◌==◌, slice_index_or, slice_get, drop, count_by, unwrap_or}
 use Rattle.std.specs.Fmt.{signed_decimal}
 use Rattle.std.proofs.lemmas.List.{append-nil}
@@ -9,22 +9,24 @@ use Rattle.vx_base.specs.declared.arithmetic.Code.{Code}
 use Rattle.vx_base.specs.declared.arithmetic.Code.TheVariants.{Add, Sub, And, Or, Xor, Shl, Shr, Shru, Sh2add, Max, Min, Mov, ToGeneral, ToBranch, Mpylu, Mpyhs, Div, Rem}
 use Rattle.vx_flow.specs.declared.graph.Operand.{Operand}
 use Rattle.vx_flow.specs.declared.graph.Op.{Op}
-use Rattle.vx_flow.specs.declared.graph.Op.TheVariants.{Compute as Computes, Select as Selects, Place, Load as Loads, Store as Stores, More as Asks, Input as Takes, Text, Decimal, Across}
-use Rattle.vx_flow.specs.Effects.{Content, State as VState, Setting, held, is_unary, both, computed, is_one as is_one_there, chosen, place_of, row_of, cell_of, is_left as is_left_there, text_at as text_there, with_value, with_cell, loaded as loaded_there, stored as stored_there, next_input, printed, effect, value_in, reads, writes}
+use Rattle.vx_flow.specs.declared.graph.Op.TheVariants.{Compute as Computes, Select as Selects, Place, Load as Loads, Store as Stores, More as Asks, Input as Takes, Text, Decimal, Across, Base, PlaceIn}
+use Rattle.vx_flow.specs.Effects.{Content, State as VState, Setting, held, is_unary, both, computed, is_one as is_one_there, chosen, place_of, place_by, row_of, cell_of, is_left as is_left_there, text_at as text_there, with_value, with_cell, loaded as loaded_there, stored as stored_there, next_input, printed, effect, value_in, reads, writes}
+use Rattle.vx_flow.specs.Sound.{is_given}
 use Rattle.vx_isa.specs.declared.operation.Register.TheVariants.{General, Branch}
 use Rattle.vx_isa.specs.declared.operation.Source.TheVariants.{Held, Number}
 use Rattle.vx_isa.specs.declared.operation.Operation.{Operation}
+use Rattle.vx_isa.specs.declared.operation.Operation.TheVariants.{Compute, Move}
 use Rattle.vx_isa.specs.declared.program.WordProgram.{WordProgram}
 use Rattle.vx_isa.specs.Operations.{is_observable, destination_of}
 use Rattle.vx_isa.specs.Machine.{State, register, source, address, is_word_of, loaded, stored, number_of, memory_after, takes_input, print_of, has_bad_address, lead_of, is_one, is_left, first_of, flag}
 use Rattle.vx_isa.proofs.Lists.{count_by-cons}
-use Rattle.vx_target.specs.Target.{Target, general_of, branch_of, register_of, holds_branch, is_own, carried, source_of, access_base, access_offset, stack_on, memory_words}
-use Rattle.vx_target.specs.Tied.{Itself, IsAnswer, IsShown, Shows, HasCell, kind_by, kind_of, kind_in, begins_at, word_at, row_in}
+use Rattle.vx_target.specs.Target.{Target, general_of, branch_of, register_of, holds_branch, is_own, is_handed, bytes, carried, source_of, access_base, access_offset, stack_on, memory_words}
+use Rattle.vx_target.specs.Tied.{Itself, InFrame, InHanded, AsBase, Seating, IsAnswer, IsBaseShown, IsShown, Shows, HasCell, kind_of, kind_in, begins_at, word_at, row_in}
 use Rattle.vx_target.proofs.Cells.{SameShape, same_shape, set_cell, set_shape, store_off, store_known}
-use Rattle.vx_target.proofs.Bytes.{is_word, place_with, place_alone}
+use Rattle.vx_target.proofs.Bytes.{is_word, sum_up, place_with, place_alone}
 use Rattle.vx_target.proofs.Forms.{one_alike, to_branch, Plainly, Computed, computed_is}
-use Rattle.vx_target.proofs.Proper.{shows_itself, PlainValue, PlainOperand, PlaceIn, ProperOp}
-use Rattle.vx_target.proofs.Reading.{cell_known, Right, right_left, right_right, operand_read, test_read, general_read, address_read}
+use Rattle.vx_target.proofs.Proper.{shows_itself, PlainValue, PlainOperand, IsPlacedIn, ProperBase, ProperPlaceIn, ProperOp}
+use Rattle.vx_target.proofs.Reading.{CellKnown, cell_known, Right, right_left, right_right, operand_read, test_read, general_read, address_read, handed_read}
 
 -- what a known result says
 
@@ -88,13 +90,13 @@ text_alike (x ∷ xs) (suc n) = text_alike xs n
 no_count : (o : Operation) → takes_input o ≡ false → count_by takes_input (o ∷ []) ≡ 0
 no_count o e = count_by-cons takes_input o [] ∙ ap (λ b. cond b 1 0 + 0) e
 
-module _ (T : Target) (w : WordProgram) (f sp : ℕ) (setting : Setting) (seats : ℕ → ℕ) (IsArray : ℕ → Type 0) (rs ws : List ℕ) (s : VState) (u : State) where
+module _ (T : Target) (w : WordProgram) (f : ℕ) (here : Seating) (setting : Setting) (IsArray : ℕ → Type 0) (rs ws : List ℕ) (s : VState) (u : State) where
   -- row k has a word i, which stands at a word of memory
   abbrev pub Cell : (k i : ℕ) → Type 0
   Cell k i = HasCell s.arrays k i
 
   abbrev pub At : (k i : ℕ) → ℕ
-  At k i = seats k + i
+  At k i = here.seats k + i
 
   -- known words of rows stand in memory
   abbrev pub Standing : List (List Content) → (ℕ → ℤ) → Type 0
@@ -107,16 +109,21 @@ module _ (T : Target) (w : WordProgram) (f sp : ℕ) (setting : Setting) (seats 
     pub texts : w.texts ≡ setting.texts
     pub inside : (k i : ℕ) → Cell k i → At k i < memory_words T
     pub apart : (k l i j : ℕ) → Cell k i → Cell l j → At k i ≡ At l j → (k ≡ l) × (i ≡ j)
-    pub begins : (a : ℕ) → IsArray a → begins_at T sp f a ≡ seats (setting.spot a)
+    -- an array that was not handed over begins at the seat of its row, and each row that stands begins within the memory
+    pub begins : (a : ℕ) → IsArray a → is_handed T f a ≡ false → begins_at T here.frame f a ≡ here.seats (setting.spot a)
+    pub spots : (a : ℕ) → here.spot a ≡ setting.spot a
+    pub there : (a : ℕ) → IsArray a → setting.spot a < here.rows
+    pub low : (k : ℕ) → k < here.rows → here.seats k ≤ memory_words T
+    pub less : 4 * memory_words T < 2 ^ 31
     pub start : Standing s.arrays u.memory
-    pub stack : (k : ℕ) → k < T.machine.clusters → register u (General (stack_on k)) ≡ pos (4 * sp)
+    pub stack : (k : ℕ) → k < T.machine.clusters → register u (General (stack_on k)) ≡ pos (4 * here.frame)
     pub input : u.input ≡ s.input
     pub out : u.out ≡ s.out
 
   -- a value that an operation writes, and the register that its operation writes
   pub data Wrote (op : Op) (o : Operation) (t t1 : VState) : Type 0 where
     no_value : writes op ≡ [] → destination_of o ≡ None → ((v : ℕ) → t1.values v ≡ t.values v) → Wrote op o t t1
-    one_value : (v : ℕ) (x : Content) → writes op ≡ v ∷ [] → destination_of o ≡ Some (register_of T f ws v) → ((y : ℕ) → t1.values y ≡ (if y == v then x else t.values y)) → ((n : ℤ) → x ≡ Some n → Shows T sp f v n (number_of w.memory u o)) → Wrote op o t t1
+    one_value : (v : ℕ) (x : Content) → writes op ≡ v ∷ [] → destination_of o ≡ Some (register_of T f ws v) → ((y : ℕ) → t1.values y ≡ (if y == v then x else t.values y)) → ((n : ℤ) → x ≡ Some n → Shows T here f v n (number_of w.memory u o)) → Wrote op o t t1
 
   pub record Done (op : Op) (o : Operation) (t t1 : VState) : Type 0 where
     pub wrote : Wrote op o t t1
@@ -132,7 +139,7 @@ module _ (T : Target) (w : WordProgram) (f sp : ℕ) (setting : Setting) (seats 
     pub elsewhere : (x : ℕ) (memory : ℕ → ℤ) → ((k i : ℕ) → Cell k i → x ≢ At k i) → word_at (memory_after u (o ∷ []) memory) x ≡ word_at memory x
 
   -- an operation that writes a value and nothing else
-  only_value : (op : Op) (o : Operation) (t : VState) (v : ℕ) (x : Content) → writes op ≡ v ∷ [] → destination_of o ≡ Some (register_of T f ws v) → Plainly w u o → ((n : ℤ) → x ≡ Some n → Shows T sp f v n (number_of w.memory u o)) → Done op o t (with_value t v x)
+  only_value : (op : Op) (o : Operation) (t : VState) (v : ℕ) (x : Content) → writes op ≡ v ∷ [] → destination_of o ≡ Some (register_of T f ws v) → Plainly w u o → ((n : ℤ) → x ≡ Some n → Shows T here f v n (number_of w.memory u o)) → Done op o t (with_value t v x)
   only_value op o t v x writes_v to_v plainly shows = record {
     wrote = one_value v x writes_v to_v (λ y. refl) shows;
     bad = plainly.bad;
@@ -150,20 +157,38 @@ module _ (T : Target) (w : WordProgram) (f sp : ℕ) (setting : Setting) (seats 
   general_to : (v : ℕ) → holds_branch T f v ≡ false → Some (General (general_of T f ws v)) ≡ Some (register_of T f ws v)
   general_to v e = ap (λ b. Some (if b then Branch (record { cluster = 0; number = branch_of T f ws v }) else General (general_of T f ws v))) (sym e)
 
-  shows_plain : (v : ℕ) (n x : ℤ) → PlainValue T f IsArray v → x ≡ n → Shows T sp f v n x
-  shows_plain v n x plain e = shows_itself T sp f v n x plain.0 (λ b. absurd (let z = plain.1 in cc)) e
+  -- the base of a local array is a sum, that of a global a number
+  abbrev base_by : (v a k : ℕ) → Bool → Operation
+  base_by v a k own = if own then Compute k Add (General (general_of T f ws v)) (Held (stack_on k)) (Number (bytes (T.array_at f a))) else Move k (general_of T f ws v) (Number (bytes (T.array_at f a)))
+
+  base_to : (v a : ℕ) (x : Operand) (k : ℕ) → holds_branch T f v ≡ false → destination_of (carried T f rs ws k (Base v a x)) ≡ Some (register_of T f ws v)
+  base_to v a x k e = by (is_own T f a)
+    where
+      by : (own : Bool) → destination_of (base_by v a k own) ≡ Some (register_of T f ws v)
+      by true = general_to v e
+      by false = general_to v e
+
+  base_plainly : (v a : ℕ) (x : Operand) (k : ℕ) → Plainly w u (carried T f rs ws k (Base v a x))
+  base_plainly v a x k = by (is_own T f a)
+    where
+      by : (own : Bool) → Plainly w u (base_by v a k own)
+      by true = record { bad = refl; takes = refl; prints = refl; stores = λ m. refl; leads = λ ops. refl }
+      by false = record { bad = refl; takes = refl; prints = refl; stores = λ m. refl; leads = λ ops. refl }
+
+  shows_plain : (v : ℕ) (n x : ℤ) → PlainValue T f IsArray v → x ≡ n → Shows T here f v n x
+  shows_plain v n x plain e = shows_itself T here f v n x plain.0 (λ b. absurd (let z = plain.1 in cc)) e
 
   abbrev pub Reads : List ℕ → Type 0
-  Reads vs = Right T f sp IsArray rs s u vs
+  Reads vs = Right T f here IsArray rs s u vs
 
   module _ (ready : Ready) where
     read : (a : Operand) (n : ℤ) → Reads (value_in a) → PlainOperand T f IsArray a → held s a ≡ Some n → source u (source_of (general_of T f rs) a) ≡ n
-    read = operand_read T f sp IsArray rs s u
+    read = operand_read T f here IsArray rs s u
 
-    compute_shows : (code : Code) (v : ℕ) (a b : Operand) (o : Operation) → Computed w u code (register_of T f ws v) (general_of T f ws v) (source_of (general_of T f rs) a) (source_of (general_of T f rs) b) o → Reads (reads (Computes code v a b)) → kind_of T f v ≡ Itself → holds_branch T f v ≡ to_branch code → PlainOperand T f IsArray a → (is_unary code ≡ false → PlainOperand T f IsArray b) → (n : ℤ) → computed code (held s a) (held s b) ≡ Some n → Shows T sp f v n (number_of w.memory u o)
+    compute_shows : (code : Code) (v : ℕ) (a b : Operand) (o : Operation) → Computed w u code (register_of T f ws v) (general_of T f ws v) (source_of (general_of T f rs) a) (source_of (general_of T f rs) b) o → Reads (reads (Computes code v a b)) → kind_of T f v ≡ Itself → holds_branch T f v ≡ to_branch code → PlainOperand T f IsArray a → (is_unary code ≡ false → PlainOperand T f IsArray b) → (n : ℤ) → computed code (held s a) (held s b) ≡ Some n → Shows T here f v n (number_of w.memory u o)
     compute_shows code v a b o c right place branch pa pb n e = by (is_unary code) refl
       where
-        by : (unary : Bool) → is_unary code ≡ unary → Shows T sp f v n (number_of w.memory u o)
+        by : (unary : Bool) → is_unary code ≡ unary → Shows T here f v n (number_of w.memory u o)
         by true q =
             let r : Reads (value_in a) = subst (λ x. Reads (if x then value_in a else value_in a ++ value_in b)) q right in
             let k : held s a ≡ Some n = sym (ap (λ x. if x then held s a else both (value_of code) (held s a) (held s b)) q) ∙ e in
@@ -173,9 +198,9 @@ module _ (T : Target) (w : WordProgram) (f sp : ℕ) (setting : Setting) (seats 
             let r : Reads (value_in a ++ value_in b) = subst (λ x. Reads (if x then value_in a else value_in a ++ value_in b)) q right in
             let k : both (value_of code) (held s a) (held s b) ≡ Some n = sym (ap (λ x. if x then held s a else both (value_of code) (held s a) (held s b)) q) ∙ e in
             let known = both_known (value_of code) (held s a) (held s b) n k in
-            let ra = read a known.left (right_left T f sp IsArray rs s u (value_in a) (value_in b) r) pa known.first in
-            let rb = read b known.right (right_right T f sp IsArray rs s u (value_in a) (value_in b) r) (pb q) known.second in
-            shows_itself T sp f v n (number_of w.memory u o) place
+            let ra = read a known.left (right_left T f here IsArray rs s u (value_in a) (value_in b) r) pa known.first in
+            let rb = read b known.right (right_right T f here IsArray rs s u (value_in a) (value_in b) r) (pb q) known.second in
+            shows_itself T here f v n (number_of w.memory u o) place
             (λ h. subst (λ z. (z ≡ pos 0) ⊎ (z ≡ pos 1)) (sym known.is) (answers code known.left known.right (sym branch ∙ h)))
             (c.number ∙ ap (λ x. if x then source u (source_of (general_of T f rs) a) else value_of code (source u (source_of (general_of T f rs) a)) (source u (source_of (general_of T f rs) b))) q
             ∙ ap (λ x. value_of code x (source u (source_of (general_of T f rs) b))) ra ∙ ap (value_of code known.left) rb ∙ sym known.is)
@@ -188,45 +213,115 @@ module _ (T : Target) (w : WordProgram) (f sp : ℕ) (setting : Setting) (seats 
         by false q h = h
 
     select_shows : (v p : ℕ) (a b : Operand) (k : ℕ) → Reads (p ∷ (value_in a ++ value_in b)) → PlainValue T f IsArray v → kind_of T f p ≡ Itself → holds_branch T f p ≡ true → PlainOperand T f IsArray a → PlainOperand T f IsArray b → (n : ℤ) (x : Content) → s.values p ≡ x → chosen x (held s a) (held s b) ≡ Some n →
-        Shows T sp f v n (if is_one (register u (Branch (record { cluster = 0; number = branch_of T f rs p }))) then source u (source_of (general_of T f rs) a) else source u (source_of (general_of T f rs) b))
+        Shows T here f v n (if is_one (register u (Branch (record { cluster = 0; number = branch_of T f rs p }))) then source u (source_of (general_of T f rs) a) else source u (source_of (general_of T f rs) b))
     select_shows v p a b k right pv pp bp pa pb n None ex e = absurd (cc)
     select_shows v p a b k right pv pp bp pa pb n (Some z) ex e = shows_plain v n _ pv (at ∙ by (is_one z) (one_alike z))
       where
         at : (if is_one (register u (Branch (record { cluster = 0; number = branch_of T f rs p }))) then source u (source_of (general_of T f rs) a) else source u (source_of (general_of T f rs) b)) ≡ (if is_one z then source u (source_of (general_of T f rs) a) else source u (source_of (general_of T f rs) b))
-        at = ap (λ y. if is_one y then source u (source_of (general_of T f rs) a) else source u (source_of (general_of T f rs) b)) (test_read T f sp IsArray rs s u p z (right_left T f sp IsArray rs s u (p ∷ []) (value_in a ++ value_in b) right) pp bp ex)
+        at = ap (λ y. if is_one y then source u (source_of (general_of T f rs) a) else source u (source_of (general_of T f rs) b)) (test_read T f here IsArray rs s u p z (right_left T f here IsArray rs s u (p ∷ []) (value_in a ++ value_in b) right) pp bp ex)
 
         more : Reads (value_in a ++ value_in b)
-        more = right_right T f sp IsArray rs s u (p ∷ []) (value_in a ++ value_in b) right
+        more = right_right T f here IsArray rs s u (p ∷ []) (value_in a ++ value_in b) right
 
         by : (t : Bool) → is_one_there z ≡ t → (if t then source u (source_of (general_of T f rs) a) else source u (source_of (general_of T f rs) b)) ≡ n
-        by true q = read a n (right_left T f sp IsArray rs s u (value_in a) (value_in b) more) pa (sym (ap (λ y. if y then held s a else held s b) q) ∙ e)
-        by false q = read b n (right_right T f sp IsArray rs s u (value_in a) (value_in b) more) pb (sym (ap (λ y. if y then held s a else held s b) q) ∙ e)
+        by true q = read a n (right_left T f here IsArray rs s u (value_in a) (value_in b) more) pa (sym (ap (λ y. if y then held s a else held s b) q) ∙ e)
+        by false q = read b n (right_right T f here IsArray rs s u (value_in a) (value_in b) more) pb (sym (ap (λ y. if y then held s a else held s b) q) ∙ e)
 
-    place_shows : (v a : ℕ) (i : Operand) (k : ℕ) → Reads (value_in i) → kind_of T f v ≡ kind_in T f a → holds_branch T f v ≡ false → PlainOperand T f IsArray i → k < T.machine.clusters → (n : ℤ) (x : Content) → held s i ≡ x → place_of x ≡ Some n →
-        Shows T sp f v n (value_of Sh2add (source u (source_of (general_of T f rs) i)) (source u (if is_own T f a then Held (stack_on k) else Number (pos 0))))
-    place_shows v a i k right place branch pi lt n None ex e = absurd (cc)
-    place_shows v a i k right place branch pi lt n (Some z) ex e = record {
+    place_shows : (v a : ℕ) (i : Operand) (k : ℕ) → Reads (value_in i) → kind_of T f v ≡ kind_in T f a → holds_branch T f v ≡ false → is_handed T f a ≡ false → PlainOperand T f IsArray i → k < T.machine.clusters → (n : ℤ) (x : Content) → held s i ≡ x → place_of x ≡ Some n →
+        Shows T here f v n (value_of Sh2add (source u (source_of (general_of T f rs) i)) (source u (if is_own T f a then Held (stack_on k) else Number (pos 0))))
+    place_shows v a i k right place branch bare pi lt n None ex e = absurd (cc)
+    place_shows v a i k right place branch bare pi lt n (Some z) ex e = record {
       answer = λ h. absurd (cc);
-      is = subst (λ x. IsShown sp (kind_of T f v) n (value_of Sh2add x (source u (if is_own T f a then Held (stack_on k) else Number (pos 0))))) (sym (read i z right pi ex)) (subst (λ c. IsShown sp c n (value_of Sh2add z (source u (if is_own T f a then Held (stack_on k) else Number (pos 0))))) (sym place) (by (is_own T f a) refl));
+      is = subst (λ x. IsShown (T.graph f).arrays here (kind_of T f v) n (value_of Sh2add x (source u (if is_own T f a then Held (stack_on k) else Number (pos 0))))) (sym (read i z right pi ex)) (subst (λ c. IsShown (T.graph f).arrays here c n (value_of Sh2add z (source u (if is_own T f a then Held (stack_on k) else Number (pos 0))))) (sym place) (by (is_own T f a) refl));
     }
       where
         num : product_of (pos 4) z ≡ n
         num = cc
 
-        by : (own : Bool) → is_own T f a ≡ own → IsShown sp (kind_by own) n (value_of Sh2add z (source u (if own then Held (stack_on k) else Number (pos 0))))
-        by true q = ap (value_of Sh2add z) (ready.stack k lt) ∙ place_with z (pos (4 * sp)) ∙ ap (λ y. sum_of y (pos (4 * sp))) num
-        by false q = place_alone z ∙ num
+        kind_is : (own : Bool) → is_own T f a ≡ own → kind_in T f a ≡ (if own then InFrame else Itself)
+        kind_is own o = ap (λ b. if b then InFrame else if is_handed T f a then InHanded a else Itself) o ∙ ap (λ b. if own then InFrame else if b then InHanded a else Itself) bare
+
+        by : (own : Bool) → is_own T f a ≡ own → IsShown (T.graph f).arrays here (kind_in T f a) n (value_of Sh2add z (source u (if own then Held (stack_on k) else Number (pos 0))))
+        by true q = subst (λ c. IsShown (T.graph f).arrays here c n (value_of Sh2add z (register u (General (stack_on k))))) (sym (kind_is true q)) (ap (value_of Sh2add z) (ready.stack k lt) ∙ place_with z (pos (4 * here.frame)) ∙ ap (λ y. sum_of y (pos (4 * here.frame))) num)
+        by false q = subst (λ c. IsShown (T.graph f).arrays here c n (value_of Sh2add z (pos 0))) (sym (kind_is false q)) (place_alone z ∙ num)
+
+    -- a place by a base has the address of the row added that the base numbers
+    place_in_shows : (v a y : ℕ) (i : Operand) → Reads (value_in i ++ y ∷ []) → ProperPlaceIn T f IsArray v a y i → (n : ℤ) (b x : Content) → s.values y ≡ b → held s i ≡ x → place_by b x ≡ Some n → Shows T here f v n (value_of Sh2add (source u (source_of (general_of T f rs) i)) (register u (General (general_of T f rs y))))
+    place_in_shows v a y i right proper n None x eb ex e = absurd (cc)
+    place_in_shows v a y i right proper n (Some m) None eb ex e = absurd (cc)
+    place_in_shows v a y i right proper n (Some m) (Some z) eb ex e = record {
+      answer = λ h. absurd (let q = proper.general in cc);
+      is = subst (λ c. IsShown (T.graph f).arrays here c n (value_of Sh2add (source u (source_of (general_of T f rs) i)) (register u (General (general_of T f rs y))))) (sym proper.kind) (low_row, shown);
+    }
+      where
+        its : IsBaseShown (T.graph f).arrays here proper.value m (register u (General (general_of T f rs y)))
+        its = general_read T f here IsArray rs s u y m (AsBase proper.value) (right_right T f here IsArray rs s u (value_in i) (y ∷ []) right) proper.base proper.base_general eb
+
+        row : here.spot a ≡ its.row
+        row = its.spots a proper.is
+
+        low_row : here.spot a < here.rows
+        low_row = let l = its.stands in let q = row in omega arith
+
+        num : product_of (pos 4) z ≡ n
+        num = cc
+
+        shown : value_of Sh2add (source u (source_of (general_of T f rs) i)) (register u (General (general_of T f rs y))) ≡ sum_of n (pos (4 * here.seats (here.spot a)))
+        shown =
+            ap (λ c. value_of Sh2add c (register u (General (general_of T f rs y)))) (read i z (right_left T f here IsArray rs s u (value_in i) (y ∷ []) right) proper.index ex)
+            ∙ ap (value_of Sh2add z) (its.word ∙ ap (λ k. pos (4 * here.seats k)) (sym row))
+            ∙ place_with z (pos (4 * here.seats (here.spot a)))
+            ∙ ap (λ c. sum_of c (pos (4 * here.seats (here.spot a)))) num
+
+    -- the base of an array is the number of its row, and its word the address of that
+    base_shows : (v a k : ℕ) (x : Operand) → (proper : ProperBase T f IsArray v a x k) → (n : ℤ) → Some (pos (setting.spot a)) ≡ Some n → Shows T here f v n (number_of w.memory u (carried T f rs ws k (Base v a x)))
+    base_shows v a k x proper n e = record {
+      answer = λ h. absurd (let q = proper.general in cc);
+      is = subst (λ c. IsShown (T.graph f).arrays here c n (number_of w.memory u (carried T f rs ws k (Base v a x)))) (sym proper.kind) (record {
+        row = setting.spot a;
+        stands = row_there;
+        number = (let q : pos (setting.spot a) ≡ n = cc in sym q);
+        word = by (is_own T f a) refl;
+        spots = λ b h. absurd (proper.made b h);
+      });
+    }
+      where
+        row_there : setting.spot a < here.rows
+        row_there = ready.there a proper.array
+
+        begins : begins_at T here.frame f a ≡ here.seats (setting.spot a)
+        begins = ready.begins a proper.array (ap is_given proper.bare)
+
+        inside : here.seats (setting.spot a) ≤ memory_words T
+        inside = ready.low (setting.spot a) row_there
+
+        by : (own : Bool) → is_own T f a ≡ own → number_of w.memory u (base_by v a k own) ≡ pos (4 * here.seats (setting.spot a))
+        by true o =
+            let q : here.frame + T.array_at f a ≡ here.seats (setting.spot a) = sym (ap (λ b. if b then here.frame + T.array_at f a else T.array_at f a) o) ∙ begins in
+            let l = inside in
+            let c = ready.less in
+            ap (λ z. sum_of z (bytes (T.array_at f a))) (ready.stack k proper.below) ∙ sum_up (4 * here.frame) (4 * T.array_at f a) (omega arith) ∙ ap pos (omega arith)
+        by false o = ap (λ z. pos (4 * z)) (sym (ap (λ b. if b then here.frame + T.array_at f a else T.array_at f a) o) ∙ begins)
 
     small_at : (k i : ℕ) → Cell k i → 4 * At k i < 2 ^ 32
     small_at k i has = let b = ready.inside k i has in let c = ready.small in omega arith
 
     -- the address of a word that an access meets
-    address_at : (k a i : ℕ) (p : Operand) → Reads (value_in p) → PlaceIn T f IsArray a p → k < T.machine.clusters → IsArray a → cell_of setting s a p ≡ Some i → (address u (access_base T f (general_of T f rs) k a p) (access_offset T f a p) ≡ 4 * At (setting.spot a) i) × Cell (setting.spot a) i
-    address_at k a i p right place lt is e =
-        let c = cell_known (length (row_in s.arrays (setting.spot a))) (held s p) i e in
-        let b = ready.begins a is in
-        let small : 4 * (begins_at T sp f a + i) < 2 ^ 32 = subst (λ x. 4 * (x + i) < 2 ^ 32) (sym b) (small_at (setting.spot a) i c.below) in
-        (address_read T f sp IsArray rs s u ready.stack k a i (length (row_in s.arrays (setting.spot a))) p right place lt e small ∙ ap (λ x. 4 * (x + i)) b, c.below)
+    address_at : (k a i : ℕ) (p : Operand) → Reads (value_in p) → IsPlacedIn T f IsArray a p → k < T.machine.clusters → IsArray a → cell_of setting s a p ≡ Some i → (address u (access_base T f (general_of T f rs) k a p) (access_offset T f a p) ≡ 4 * At (setting.spot a) i) × Cell (setting.spot a) i
+    address_at k a i p right place lt is e = (by (is_handed T f a) refl, c.below)
+      where
+        c : CellKnown (length (row_in s.arrays (setting.spot a))) (held s p) i
+        c = cell_known (length (row_in s.arrays (setting.spot a))) (held s p) i e
+
+        by : (handed : Bool) → is_handed T f a ≡ handed → address u (access_base T f (general_of T f rs) k a p) (access_offset T f a p) ≡ 4 * At (setting.spot a) i
+        by false h =
+            let b = ready.begins a is h in
+            let small : 4 * (begins_at T here.frame f a + i) < 2 ^ 32 = subst (λ x. 4 * (x + i) < 2 ^ 32) (sym b) (small_at (setting.spot a) i c.below) in
+            address_read T f here IsArray rs s u ready.stack k a i (length (row_in s.arrays (setting.spot a))) p right place h lt e small ∙ ap (λ x. 4 * (x + i)) b
+        by true h =
+            let q = ready.spots a in
+            let small : 4 * (here.seats (here.spot a) + i) < 2 ^ 32 = subst (λ x. 4 * (here.seats x + i) < 2 ^ 32) (sym q) (small_at (setting.spot a) i c.below) in
+            handed_read T f here IsArray rs s u k a i (length (row_in s.arrays (setting.spot a))) p right place h e small ∙ ap (λ x. 4 * (here.seats x + i)) q
 
     word_there : (k i : ℕ) → Cell k i → is_word_of w.memory (4 * At k i) ≡ true
     word_there k i has = ap (λ n. is_word_of n (4 * At k i)) ready.memory ∙ is_word (At k i) (memory_words T) (ready.inside k i has)
@@ -276,15 +371,15 @@ module _ (T : Target) (w : WordProgram) (f sp : ℕ) (setting : Setting) (seats 
           shape = set_shape t.arrays (setting.spot a) i (Some n) row_below;
           rows = λ memory h. subst (λ j. Standing (set_cell t.arrays (setting.spot a) i (Some n)) (stored memory j (source u (source_of (general_of T f rs) x)))) (sym at.0)
               (subst (λ z. Standing (set_cell t.arrays (setting.spot a) i (Some n)) (stored memory (4 * At (setting.spot a) i) z)) (sym from)
-              (store_known s.arrays t.arrays seats memory (setting.spot a) i n like at.1 (λ l j there q. ready.apart l (setting.spot a) j i there at.1 q) h));
+              (store_known s.arrays t.arrays here.seats memory (setting.spot a) i n like at.1 (λ l j there q. ready.apart l (setting.spot a) j i there at.1 q) h));
           elsewhere = λ y memory h. ap (λ j. word_at (stored memory j (source u (source_of (general_of T f rs) x))) y) at.0 ∙ store_off memory (At (setting.spot a) i) y (source u (source_of (general_of T f rs) x)) (h (setting.spot a) i at.1);
         })
       where
         at : (address u (access_base T f (general_of T f rs) k a p) (access_offset T f a p) ≡ 4 * At (setting.spot a) i) × Cell (setting.spot a) i
-        at = address_at k a i p (right_left T f sp IsArray rs s u (value_in p) (value_in x) right) proper.0 proper.2 proper.3 ec
+        at = address_at k a i p (right_left T f here IsArray rs s u (value_in p) (value_in x) right) proper.0 proper.2 proper.3 ec
 
         from : (source u (source_of (general_of T f rs) x)) ≡ n
-        from = read x n (right_right T f sp IsArray rs s u (value_in p) (value_in x) right) proper.1 ey
+        from = read x n (right_right T f here IsArray rs s u (value_in p) (value_in x) right) proper.1 ey
 
         row_below : i < length (row_in t.arrays (setting.spot a))
         row_below = let z = like.each (setting.spot a) in let b = at.1 in omega arith
@@ -343,13 +438,13 @@ module _ (T : Target) (w : WordProgram) (f sp : ℕ) (setting : Setting) (seats 
           elsewhere = λ y memory h. refl;
         })
 
-    more_shows : (v : ℕ) → PlainValue T f IsArray v → (n : ℤ) → Some (one_if (is_left_there s.input)) ≡ Some n → Shows T sp f v n (flag (is_left u.input))
+    more_shows : (v : ℕ) → PlainValue T f IsArray v → (n : ℤ) → Some (one_if (is_left_there s.input)) ≡ Some n → Shows T here f v n (flag (is_left u.input))
     more_shows v proper n h =
         let k : one_if (is_left_there s.input) ≡ n = cc in
         shows_plain v n (flag (is_left u.input)) proper (flag_alike (is_left u.input) ∙ ap one_if (ap is_left ready.input ∙ sym (left_alike s.input)) ∙ k)
 
-    across_shows : (v y : ℕ) → Reads (y ∷ []) → kind_of T f v ≡ kind_of T f y → holds_branch T f v ≡ false → holds_branch T f y ≡ false → (n : ℤ) → s.values y ≡ Some n → Shows T sp f v n (register u (General (general_of T f rs y)))
-    across_shows v y right place bv by n h = record { answer = λ e. absurd (cc); is = subst (λ c. IsShown sp c n (register u (General (general_of T f rs y)))) (sym place) (general_read T f sp IsArray rs s u y n (kind_of T f y) right refl by h) }
+    across_shows : (v y : ℕ) → Reads (y ∷ []) → kind_of T f v ≡ kind_of T f y → holds_branch T f v ≡ false → holds_branch T f y ≡ false → (n : ℤ) → s.values y ≡ Some n → Shows T here f v n (register u (General (general_of T f rs y)))
+    across_shows v y right place bv by n h = record { answer = λ e. absurd (cc); is = subst (λ c. IsShown (T.graph f).arrays here c n (register u (General (general_of T f rs y)))) (sym place) (general_read T f here IsArray rs s u y n (kind_of T f y) right refl by h) }
 
     -- what the operation does
     pub op_done : (op : Op) (k : ℕ) (t t1 : VState) → Reads (reads op) → ProperOp T f IsArray op k → SameShape s.arrays t.arrays → effect setting s op t ≡ Some t1 → Done op (carried T f rs ws k op) t t1
@@ -367,7 +462,7 @@ module _ (T : Target) (w : WordProgram) (f sp : ℕ) (setting : Setting) (seats 
         let q : with_value t v (place_of (held s i)) ≡ t1 = cc in
         subst (Done (Place v a i) (carried T f rs ws k (Place v a i)) t) q
         (only_value (Place v a i) (carried T f rs ws k (Place v a i)) t v (place_of (held s i)) refl (general_to v proper.0.1) (record { bad = refl; takes = refl; prints = refl; stores = λ m. refl; leads = λ ops. refl })
-        (λ n h. place_shows v a i k right proper.0.0 proper.0.1 proper.1 proper.2 n (held s i) refl h))
+        (λ n h. place_shows v a i k right proper.0.0 proper.0.1 proper.3 proper.1 proper.2 n (held s i) refl h))
     op_done (Loads v a p d) k t t1 right proper like e = load_done v a k p d t t1 right proper (cell_of setting s a p) refl e
     op_done (Stores a p x) k t t1 right proper like e = store_done a k p x t t1 right proper like (cell_of setting s a p) refl (held s x) refl e
     op_done (Asks v) k t t1 right proper like e =
@@ -381,3 +476,12 @@ module _ (T : Target) (w : WordProgram) (f sp : ℕ) (setting : Setting) (seats 
         let q : with_value t v (s.values y) ≡ t1 = cc in
         subst (Done (Across v y) (carried T f rs ws k (Across v y)) t) q
         (only_value (Across v y) (carried T f rs ws k (Across v y)) t v (s.values y) refl (general_to v proper.1) (record { bad = refl; takes = refl; prints = refl; stores = λ m. refl; leads = λ ops. refl }) (across_shows v y right proper.0 proper.1 proper.2))
+    op_done (Base v a x) k t t1 right proper like e =
+        let q : with_value t v (Some (pos (setting.spot a))) ≡ t1 = cc in
+        subst (Done (Base v a x) (carried T f rs ws k (Base v a x)) t) q
+        (only_value (Base v a x) (carried T f rs ws k (Base v a x)) t v (Some (pos (setting.spot a))) refl (base_to v a x k proper.general) (base_plainly v a x k) (base_shows v a k x proper))
+    op_done (PlaceIn v a y i) k t t1 right proper like e =
+        let q : with_value t v (place_by (s.values y) (held s i)) ≡ t1 = cc in
+        subst (Done (PlaceIn v a y i) (carried T f rs ws k (PlaceIn v a y i)) t) q
+        (only_value (PlaceIn v a y i) (carried T f rs ws k (PlaceIn v a y i)) t v (place_by (s.values y) (held s i)) refl (general_to v proper.general) (record { bad = refl; takes = refl; prints = refl; stores = λ m. refl; leads = λ ops. refl })
+        (λ n h. place_in_shows v a y i right proper n (s.values y) (held s i) refl refl h))

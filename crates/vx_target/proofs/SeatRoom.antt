@@ -1,5 +1,5 @@
 -- Where seats are: within the memory, apart from each other, and apart from links and slots.
-use Rattle.std.proofs.Common.{◌≡◌, ◌≢◌, ◌<◌, ◌≤◌, ◌⊎◌, inl, inr, ⊎_elim, ◌+◌, ◌-◌, ℕ, ℤ, Bool, true, false, Some, List, [], ◌∷◌, length, refl, sym, ap, ◌∙◌, subst, arith, leb}
+use Rattle.std.proofs.Common.{◌≡◌, ◌≢◌, ◌<◌, ◌≤◌, ◌⊎◌, inl, inr, ⊎_elim, ◌+◌, ◌-◌, ◌*◌, ℕ, ℤ, Bool, true, false, Some, None, List, [], ◌∷◌, length, refl, sym, ap, ◌∙◌, subst, arith, leb}
 use Rattle.std.specs.Prelude.{if◌then◌else◌, slice_get, slice_index_or}
 use Rattle.std.proofs.lemmas.Bool.{le-leb, lt-leb, leb-true, leb-false}
 use Rattle.std.proofs.lemmas.Option.{get_or_from_slice_get}
@@ -7,16 +7,16 @@ use Rattle.vx_flow.specs.declared.graph.Array.{Array}
 use Rattle.vx_flow.specs.declared.graph.Global.{Global}
 use Rattle.vx_flow.specs.declared.graph.Flow.{Flow}
 use Rattle.vx_flow.specs.Effects.{Content, IsIn}
-use Rattle.vx_flow.specs.Meaning.{spot_of}
+use Rattle.vx_flow.specs.Meaning.{spot_in, deepest}
 use Rattle.vx_flow.specs.Sound.{SoundFlow}
 use Rattle.vx_mixed.specs.declared.layout.VWords.{VWords}
 use Rattle.vx_target.specs.Target.{Target, memory_words}
-use Rattle.vx_target.specs.Tied.{Stacked, HasCell, IsStack, Seated, seat, words_before, row_in, begins_at, own_arrays, IsFunction}
+use Rattle.vx_target.specs.Tied.{Stacked, WasPassed, HasCell, IsStack, Seated, seat, words_before, row_in, begins_at, own_arrays, IsFunction}
 use Rattle.vx_target.specs.Carried.{HasWord, IsFramed}
 use Rattle.vx_target.specs.Seats.{HasFrames, Seats, Framed, is_link, is_slot}
 use Rattle.vx_target.proofs.Cells.{row_there}
-use Rattle.vx_target.proofs.Owned.{own_from, own_there, own_once, own_at}
-use Rattle.vx_target.proofs.Frames.{get_below, get_some, before_all, before_apart, array_kind}
+use Rattle.vx_target.proofs.Owned.{own_from, own_there, own_once, own_at, own_spot, handed_spot}
+use Rattle.vx_target.proofs.Frames.{get_below, get_some, before_all, before_le, before_apart, array_kind}
 
 -- the seat of a row of the latest activation, and of one in front of those
 
@@ -46,16 +46,16 @@ module _ (T : Target) (flow : Flow) (ls : List VWords) where
 
   pub globals_first : (stack : List Stacked) (from behind : ℕ) → IsStack T flow ls from behind stack → Globals ≤ behind
   globals_first [] from behind is = let e = is.1 in omega arith
-  globals_first (x ∷ xs) from behind is = let e = is.2 in let r = globals_first xs (from + T.frame) x.base is.3 in omega arith
+  globals_first (x ∷ xs) from behind is = let e = is.2 in let r = globals_first xs (from + T.frame) x.base is.4 in omega arith
 
   pub frames_inside : (stack : List Stacked) (from behind : ℕ) → IsStack T flow ls from behind stack → from ≤ memory_words T
   frames_inside [] from behind is = let e = is.0 in omega arith
-  frames_inside (x ∷ xs) from behind is = let r = frames_inside xs (from + T.frame) x.base is.3 in omega arith
+  frames_inside (x ∷ xs) from behind is = let r = frames_inside xs (from + T.frame) x.base is.4 in omega arith
 
   pub frame_inside : (stack : List Stacked) (from behind : ℕ) → IsStack T flow ls from behind stack → (x : Stacked) → IsIn x stack → (from ≤ x.frame) × (x.frame + T.frame ≤ memory_words T)
   frame_inside [] from behind is x i = absurd i
-  frame_inside (y ∷ ys) from behind is x (inl e) = let r = frames_inside ys (from + T.frame) y.base is.3 in let q : x.frame ≡ y.frame = ap (λ z. z.frame) e in let p = is.1 in (omega arith, omega arith)
-  frame_inside (y ∷ ys) from behind is x (inr i) = let r = frame_inside ys (from + T.frame) y.base is.3 x i in let a = r.0 in (omega arith, r.1)
+  frame_inside (y ∷ ys) from behind is x (inl e) = let r = frames_inside ys (from + T.frame) y.base is.4 in let q : x.frame ≡ y.frame = ap (λ z. z.frame) e in let p = is.1 in (omega arith, omega arith)
+  frame_inside (y ∷ ys) from behind is x (inr i) = let r = frame_inside ys (from + T.frame) y.base is.4 x i in let a = r.0 in (omega arith, r.1)
 
   -- the link and the slots of an activation are not below its frame
   pub framed_from : (stack : List Stacked) (from behind : ℕ) → IsStack T flow ls from behind stack → (x : Stacked) (word : ℕ) → IsIn x stack → Framed T x word → from ≤ word
@@ -66,7 +66,13 @@ module _ (T : Target) (flow : Flow) (ls : List VWords) where
   pub function_in : (stack : List Stacked) (from behind : ℕ) → IsStack T flow ls from behind stack → (x : Stacked) → IsIn x stack → IsFunction T flow ls x.function
   function_in [] from behind is x i = absurd i
   function_in (y ∷ ys) from behind is x (inl e) = subst (λ (z : Stacked). IsFunction T flow ls z.function) (sym e) is.0
-  function_in (y ∷ ys) from behind is x (inr i) = function_in ys (from + T.frame) y.base is.3 x i
+  function_in (y ∷ ys) from behind is x (inr i) = function_in ys (from + T.frame) y.base is.4 x i
+
+  -- and of each what was passed to it stands in front of its own arrays
+  pub passed_in : (stack : List Stacked) (from behind : ℕ) → IsStack T flow ls from behind stack → (x : Stacked) → IsIn x stack → WasPassed T Globals x
+  passed_in [] from behind is x i = absurd i
+  passed_in (y ∷ ys) from behind is x (inl e) = subst (WasPassed T Globals) (sym e) is.3
+  passed_in (y ∷ ys) from behind is x (inr i) = passed_in ys (from + T.frame) y.base is.4 x i
 
   -- its own arrays are rows in front of where the rows end
   pub own_low : (stack : List Stacked) (from behind : ℕ) → IsStack T flow ls from behind stack → (x : Stacked) → IsIn x stack → (j a : ℕ) → slice_get (own_arrays T Globals x.function) j ≡ Some a → x.base + j < behind
@@ -76,7 +82,7 @@ module _ (T : Target) (flow : Flow) (ls : List VWords) where
       let b : x.base ≡ y.base = ap (λ (z : Stacked). z.base) e in
       let c : length (own_arrays T Globals x.function) ≡ length (own_arrays T Globals y.function) = ap (λ (z : Stacked). length (own_arrays T Globals z.function)) e in
       let d = get_below (own_arrays T Globals x.function) j a own in omega arith
-  own_low (y ∷ ys) from behind is x (inr i) j a own = let r = own_low ys (from + T.frame) y.base is.3 x i j a own in let l = is.2 in omega arith
+  own_low (y ∷ ys) from behind is x (inr i) j a own = let r = own_low ys (from + T.frame) y.base is.4 x i j a own in let l = is.2 in omega arith
 
 module _ (T : Target) (flow : Flow) (ls : List VWords) (sound : SoundFlow flow) (frames : HasFrames T flow ls) where
   abbrev G : ℕ
@@ -86,33 +92,56 @@ module _ (T : Target) (flow : Flow) (ls : List VWords) (sound : SoundFlow flow) 
   Seat stack k = seat T flow.globals stack k
 
   -- the spots of its arrays are in front of where the rows end
-  pub spot_low : (stack : List Stacked) (from behind : ℕ) → IsStack T flow ls from behind stack → (x : Stacked) → IsIn x stack → (a : ℕ) (array : Array) → slice_get (T.graph x.function).arrays a ≡ Some array → spot_of G x.base a < behind
+  pub spot_low : (stack : List Stacked) (from behind : ℕ) → IsStack T flow ls from behind stack → (x : Stacked) → IsIn x stack → (a : ℕ) (array : Array) → slice_get (T.graph x.function).arrays a ≡ Some array → spot_in G x.passed x.base a < behind
   spot_low [] from behind is x i a array has = absurd i
-  spot_low (y ∷ ys) from behind is x (inl e) a array has = subst (λ (z : Stacked). slice_get (T.graph z.function).arrays a ≡ Some array → spot_of G z.base a < behind) (sym e) here has
+  spot_low (y ∷ ys) from behind is x (inl e) a array has = subst (λ (z : Stacked). slice_get (T.graph z.function).arrays a ≡ Some array → spot_in G z.passed z.base a < behind) (sym e) here has
     where
-      here : slice_get (T.graph y.function).arrays a ≡ Some array → spot_of G y.base a < behind
+      here : slice_get (T.graph y.function).arrays a ≡ Some array → spot_in G y.passed y.base a < behind
       here h = ⊎_elim
-          (λ g. let s = g.spot y.base in let b = g.below in let f = globals_first T flow ls ys (from + T.frame) y.base is.3 in let l = is.2 in omega arith)
-          (λ o. let s = o.spot y.base in let l = is.2 in let c = get_below (own_arrays T G y.function) (a - G) a (own_at T G y.function a array o.from h) in omega arith)
+          (λ g. let s = g.spot y.passed y.base in let b = g.below in let f = globals_first T flow ls ys (from + T.frame) y.base is.4 in let l = is.2 in omega arith)
+          (λ k. ⊎_elim
+          (λ o. let r = own_at T G y.function a array o.from h o.bare in let s = own_spot T G y is.3 r.0 a r.1 in let l = is.2 in let c = get_below (own_arrays T G y.function) r.0 a r.1 in omega arith)
+          (λ d. let s = handed_spot T G y is.3 a d.value array d.from h d.base in let l = is.2 in omega arith)
+          k)
           (array_kind T flow frames.some frames.globals sound y.function ls is.0 (frames.each y.function is.0) a array h)
-  spot_low (y ∷ ys) from behind is x (inr i) a array has = let r = spot_low ys (from + T.frame) y.base is.3 x i a array has in let l = is.2 in omega arith
+  spot_low (y ∷ ys) from behind is x (inr i) a array has = let r = spot_low ys (from + T.frame) y.base is.4 x i a array has in let l = is.2 in omega arith
 
-  -- array a of an activation begins at the seat of its spot
-  pub begins_there : (stack : List Stacked) (from behind : ℕ) → IsStack T flow ls from behind stack → (x : Stacked) → IsIn x stack → (a : ℕ) (array : Array) → slice_get (T.graph x.function).arrays a ≡ Some array → begins_at T x.frame x.function a ≡ Seat stack (spot_of G x.base a)
-  begins_there [] from behind is x i a array has = absurd i
-  begins_there (y ∷ ys) from behind is x (inl e) a array has = subst (λ (z : Stacked). slice_get (T.graph z.function).arrays a ≡ Some array → begins_at T z.frame z.function a ≡ Seat (y ∷ ys) (spot_of G z.base a)) (sym e) here has
+  -- array a of an activation begins at the seat of its spot, where it was not handed over
+  pub begins_there : (stack : List Stacked) (from behind : ℕ) → IsStack T flow ls from behind stack → (x : Stacked) → IsIn x stack → (a : ℕ) (array : Array) → slice_get (T.graph x.function).arrays a ≡ Some array → array.base ≡ None → begins_at T x.frame x.function a ≡ Seat stack (spot_in G x.passed x.base a)
+  begins_there [] from behind is x i a array has bare = absurd i
+  begins_there (y ∷ ys) from behind is x (inl e) a array has bare = subst (λ (z : Stacked). slice_get (T.graph z.function).arrays a ≡ Some array → begins_at T z.frame z.function a ≡ Seat (y ∷ ys) (spot_in G z.passed z.base a)) (sym e) here has
     where
       among : (stack : List Stacked) (from behind : ℕ) → IsStack T flow ls from behind stack → a < G → Seat stack a ≡ words_before flow.globals a
       among [] from behind is lt = refl
-      among (z ∷ zs) from behind is lt = seat_before T flow.globals z zs a (let g = globals_first T flow ls zs (from + T.frame) z.base is.3 in omega arith) ∙ among zs (from + T.frame) z.base is.3 lt
+      among (z ∷ zs) from behind is lt = seat_before T flow.globals z zs a (let g = globals_first T flow ls zs (from + T.frame) z.base is.4 in omega arith) ∙ among zs (from + T.frame) z.base is.4 lt
 
-      here : slice_get (T.graph y.function).arrays a ≡ Some array → begins_at T y.frame y.function a ≡ Seat (y ∷ ys) (spot_of G y.base a)
+      here : slice_get (T.graph y.function).arrays a ≡ Some array → begins_at T y.frame y.function a ≡ Seat (y ∷ ys) (spot_in G y.passed y.base a)
       here h = ⊎_elim
-          (λ g. g.begins y.frame ∙ sym (ap (Seat (y ∷ ys)) (g.spot y.base) ∙ among (y ∷ ys) from behind is g.below))
-          (λ o. o.begins y.frame ∙ sym (ap (Seat (y ∷ ys)) (o.spot y.base) ∙ seat_here T flow.globals y ys (y.base + (a - G)) (a - G) a refl (own_at T G y.function a array o.from h)))
+          (λ g. g.begins y.frame ∙ sym (ap (Seat (y ∷ ys)) (g.spot y.passed y.base) ∙ among (y ∷ ys) from behind is g.below))
+          (λ k. ⊎_elim
+          (λ o. let r = own_at T G y.function a array o.from h bare in o.begins y.frame ∙ sym (ap (Seat (y ∷ ys)) (own_spot T G y is.3 r.0 a r.1) ∙ seat_here T flow.globals y ys (y.base + r.0) r.0 a refl r.1))
+          (λ d. absurd (let z : None ≡ Some d.value = sym bare ∙ d.base in cc))
+          k)
           (array_kind T flow frames.some frames.globals sound y.function ls is.0 (frames.each y.function is.0) a array h)
-  begins_there (y ∷ ys) from behind is x (inr i) a array has =
-      begins_there ys (from + T.frame) y.base is.3 x i a array has ∙ sym (seat_before T flow.globals y ys (spot_of G x.base a) (spot_low ys (from + T.frame) y.base is.3 x i a array has))
+  begins_there (y ∷ ys) from behind is x (inr i) a array has bare =
+      begins_there ys (from + T.frame) y.base is.4 x i a array has bare ∙ sym (seat_before T flow.globals y ys (spot_in G x.passed x.base a) (spot_low ys (from + T.frame) y.base is.4 x i a array has))
+
+  -- each row begins within the memory, also one without words
+  pub seat_low : (stack : List Stacked) (from behind : ℕ) → IsStack T flow ls from behind stack → (k : ℕ) → k < behind → Seat stack k ≤ memory_words T
+  seat_low [] from behind is k lt = let e = is.1 in let b = before_le flow.globals k (omega arith) in let g = frames.globals in let m : memory_words T ≡ T.globals + T.frame * deepest = refl in omega arith
+  seat_low (x ∷ xs) from behind is k lt = ⊎_elim
+      (λ le.
+      let l = is.2 in
+      let j : ℕ = k - x.base in
+      let row_is : k ≡ x.base + j = omega arith in
+      let g = get_some (own_arrays T G x.function) j (omega arith) in
+      let t = own_there T G x.function j g.0 g.1 in
+      let s = seat_here T flow.globals x xs k j g.0 row_is g.1 in
+      let e = (frames.each x.function is.0).own_end g.0 t.0 (own_from T G x.function j g.0 g.1) t.1 in
+      let f = is.1 in
+      let m = frames_inside T flow ls xs (from + T.frame) x.base is.4 in omega arith)
+      (λ less. let s = seat_before T flow.globals x xs k less in let r = seat_low xs (from + T.frame) x.base is.4 k less in omega arith)
+      (own_or_before x.base k)
 
   module _ (rows : List (List Content)) where
     abbrev Global_sizes : Type 0
@@ -148,11 +177,11 @@ module _ (T : Target) (flow : Flow) (ls : List VWords) (sound : SoundFlow flow) 
     pub seat_room : Global_sizes → (stack : List Stacked) (from behind : ℕ) → IsStack T flow ls from behind stack → Own_sizes stack → (k i : ℕ) → k < behind → HasCell rows k i → (Seat stack k + i < T.globals) ⊎ ((from ≤ Seat stack k + i) × (Seat stack k + i < memory_words T))
     seat_room globals [] from behind is own k i lt has = inl (let e = is.1 in let c = global_cell globals k i (omega arith) has in let b = before_all flow.globals k i c.0 c.1 c.2 in let g = frames.globals in omega arith)
     seat_room globals (x ∷ xs) from behind is own k i lt has = ⊎_elim
-        (λ le. let o = own_cell x xs behind is.2 own k i le lt has in let c = (frames.each x.function is.0).own_to o.number i o.from o.word in let s = o.stands in let f = is.1 in let m = frames_inside T flow ls xs (from + T.frame) x.base is.3 in inr (omega arith, omega arith))
+        (λ le. let o = own_cell x xs behind is.2 own k i le lt has in let c = (frames.each x.function is.0).own_to o.number i o.from o.word in let s = o.stands in let f = is.1 in let m = frames_inside T flow ls xs (from + T.frame) x.base is.4 in inr (omega arith, omega arith))
         (λ less. let s = seat_before T flow.globals x xs k less in ⊎_elim
         (λ g. inl (omega arith))
         (λ r. let a = r.0 in let b = r.1 in inr (omega arith, omega arith))
-        (seat_room globals xs (from + T.frame) x.base is.3 (λ y r a array j o h. own y r a array (inr j) o h) k i less has))
+        (seat_room globals xs (from + T.frame) x.base is.4 (λ y r a array j o h. own y r a array (inr j) o h) k i less has))
         (own_or_before x.base k)
 
     -- a word in the frame of the latest activation is none of the rows in front of it
@@ -162,7 +191,7 @@ module _ (T : Target) (flow : Flow) (ls : List VWords) (sound : SoundFlow flow) 
         let f = is.1 in ⊎_elim
         (λ g. absurd (omega arith))
         (λ r. let a = r.0 in absurd (omega arith))
-        (seat_room globals xs (from + T.frame) x.base is.3 (λ y r a array j o h. own y r a array (inr j) o h) k i less has)
+        (seat_room globals xs (from + T.frame) x.base is.4 (λ y r a array j o h. own y r a array (inr j) o h) k i less has)
 
     -- two words of rows are two words of memory
     pub seats_apart : Global_sizes → (stack : List Stacked) (from behind : ℕ) → IsStack T flow ls from behind stack → T.globals ≤ from → Own_sizes stack → (k l i j : ℕ) → k < behind → l < behind → HasCell rows k i → HasCell rows l j → Seat stack k + i ≡ Seat stack l + j → (k ≡ l) × (i ≡ j)
@@ -178,7 +207,7 @@ module _ (T : Target) (flow : Flow) (ls : List VWords) (sound : SoundFlow flow) 
         (own_or_before x.base l))
         (λ a. ⊎_elim
         (λ b. absurd (mixed l k j i b ll hl a hk (sym e)))
-        (λ b. seats_apart globals xs (from + T.frame) x.base is.3 (omega arith) (λ y r c array m o h. own y r c array (inr m) o h) k l i j a b hk hl (sym (ap (λ z. z + i) (seat_before T flow.globals x xs k a)) ∙ e ∙ ap (λ z. z + j) (seat_before T flow.globals x xs l b)))
+        (λ b. seats_apart globals xs (from + T.frame) x.base is.4 (omega arith) (λ y r c array m o h. own y r c array (inr m) o h) k l i j a b hk hl (sym (ap (λ z. z + i) (seat_before T flow.globals x xs k a)) ∙ e ∙ ap (λ z. z + j) (seat_before T flow.globals x xs l b)))
         (own_or_before x.base l))
         (own_or_before x.base k)
       where
@@ -221,9 +250,9 @@ module _ (T : Target) (flow : Flow) (ls : List VWords) (sound : SoundFlow flow) 
         let w = (frames.each x.function is.0).own_to o.number i o.from o.word in
         let s = o.stands in
         let f = is.1 in
-        let r = frame_inside T flow ls xs (from + T.frame) x.base is.3 y m in
+        let r = frame_inside T flow ls xs (from + T.frame) x.base is.4 y m in
         let a = r.0 in omega arith))
-        (λ less. frame_free globals xs (from + T.frame) x.base is.3 (omega arith) (λ v r a array j o h. own v r a array (inr j) o h) y m z inside free k i less has (e ∙ ap (λ v. v + i) (seat_before T flow.globals x xs k less)))
+        (λ less. frame_free globals xs (from + T.frame) x.base is.4 (omega arith) (λ v r a array j o h. own v r a array (inr j) o h) y m z inside free k i less has (e ∙ ap (λ v. v + i) (seat_before T flow.globals x xs k less)))
         (own_or_before x.base k)
 
   -- together: rows that are seated in a stack have a table of seats
@@ -236,10 +265,15 @@ module _ (T : Target) (flow : Flow) (ls : List VWords) (sound : SoundFlow flow) 
         inside = λ k i has. ⊎_elim (λ g. let m = frames_inside T flow ls stack from (length rows) is in omega arith) (λ r. r.1) (seat_room rows sized.global stack from (length rows) is sized.own k i (there k i has) has);
         apart = λ k l i j hk hl e. seats_apart rows sized.global stack from (length rows) is high sized.own k l i j (there k i hk) (there l j hl) hk hl e;
         free = λ x word k i m framed has. by_word x word k i m (function_in T flow ls stack from (length rows) is x m) framed has;
-        begins = λ x a array m has. begins_there stack from (length rows) is x m a array has;
-        sizes = λ x a array m has. ⊎_elim
-            (λ g. ap (λ j. length (row_in rows j)) (g.spot x.base) ∙ sized.global a g.item g.has ∙ sym g.words)
-            (λ o. ap (λ j. length (row_in rows j)) (o.spot x.base) ∙ sized.own x (a - G) a array m (own_at T G x.function a array o.from has) has)
+        low = λ k lt. seat_low stack from (length rows) is k lt;
+        stands = λ x a array m has. spot_low stack from (length rows) is x m a array has;
+        begins = λ x a array m has bare. begins_there stack from (length rows) is x m a array has bare;
+        sizes = λ x a array m has bare. ⊎_elim
+            (λ g. ap (λ j. length (row_in rows j)) (g.spot x.passed x.base) ∙ sized.global a g.item g.has ∙ sym g.words)
+            (λ k. ⊎_elim
+            (λ o. let r = own_at T G x.function a array o.from has bare in ap (λ j. length (row_in rows j)) (own_spot T G x (passed_in T flow ls stack from (length rows) is x m) r.0 a r.1) ∙ sized.own x r.0 a array m r.1 has)
+            (λ d. absurd (let z : None ≡ Some d.value = sym bare ∙ d.base in cc))
+            k)
             (array_kind T flow frames.some frames.globals sound x.function ls (function_in T flow ls stack from (length rows) is x m) (frames.each x.function (function_in T flow ls stack from (length rows) is x m)) a array has);
       }
     where

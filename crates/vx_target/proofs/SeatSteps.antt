@@ -1,5 +1,5 @@
 -- Steps of a run keep rows seated.
-use Rattle.std.proofs.Common.{◌≡◌, ◌<◌, ◌≤◌, ◌⊎◌, inl, inr, ◌+◌, ◌-◌, ◌*◌, ℕ, zero, suc, ℤ, Some, None, List, [], ◌∷◌, ◌++◌, length, length-append, map, take, replicate, refl, sym, ap, ◌∙◌, subst, arith}
+use Rattle.std.proofs.Common.{◌≡◌, ◌<◌, ◌≤◌, ◌⊎◌, inl, inr, ◌+◌, ◌-◌, ◌*◌, ℕ, zero, suc, ℤ, Option, Some, None, List, [], ◌∷◌, ◌++◌, length, length-append, map, take, replicate, refl, sym, ap, ◌∙◌, subst, arith}
 use Rattle.std.specs.Prelude.{slice_get, slice_index_or}
 use Rattle.std.proofs.lemmas.List.{length-replicate, length-take-le, get_or_append_left, get_or-append-add, get_or-take}
 use Rattle.vx_flow.specs.declared.graph.Array.{Array}
@@ -11,7 +11,7 @@ use Rattle.vx_isa.specs.declared.program.WordProgram.{WordProgram}
 use Rattle.vx_isa.specs.Machine.{stored}
 use Rattle.vx_mixed.specs.declared.layout.VWords.{VWords}
 use Rattle.vx_target.specs.Target.{Target}
-use Rattle.vx_target.specs.Tied.{IsFunction, Stacked, HasCell, IsStack, Sized, Seated, seat, own_arrays, row_in, word_at}
+use Rattle.vx_target.specs.Tied.{IsFunction, Stacked, WasPassed, HasCell, IsStack, Sized, Seated, seat, own_arrays, row_in, word_at}
 use Rattle.vx_target.specs.Carried.{Carries, IsSaved}
 use Rattle.vx_target.specs.Seats.{HasFrames}
 use Rattle.vx_target.proofs.Cells.{SameShape, row_there, set_cell, set_shape, store_known}
@@ -66,12 +66,15 @@ module _ (T : Target) (flow : Flow) (ls : List VWords) where
   abbrev pub New : (g : ℕ) → List (List Content)
   New g = map undefined (own_of Globals (T.graph g))
 
-  pub entered_stack : (stack : List Stacked) (from : ℕ) (rows : List (List Content)) (g : ℕ) → IsFunction T flow ls g → IsStack T flow ls (from + T.frame) (length rows) stack → IsStack T flow ls from (length (rows ++ New g)) (record { function = g; frame = from; base = length rows } ∷ stack)
-  entered_stack stack from rows g is stacked = (is, refl, (let a = length-append rows (New g) in let b = own_count T Globals g in omega arith), stacked)
+  abbrev pub Entered : (g from : ℕ) → (passed : List (Option ℕ)) → List (List Content) → Stacked
+  Entered g from passed rows = record { function = g; frame = from; passed = passed; base = length rows }
 
-  pub entered_seated : (stack : List Stacked) (from : ℕ) (rows : List (List Content)) (memory : ℕ → ℤ) (g frame : ℕ) → IsStack T flow ls from (length rows) stack → Seated T flow.globals stack rows memory →
-      Seated T flow.globals (record { function = g; frame = frame; base = length rows } ∷ stack) (rows ++ New g) memory
-  entered_seated stack from rows memory g frame stacked s = record {
+  pub entered_stack : (stack : List Stacked) (from : ℕ) (rows : List (List Content)) (g : ℕ) (passed : List (Option ℕ)) → IsFunction T flow ls g → WasPassed T Globals (Entered g from passed rows) → IsStack T flow ls (from + T.frame) (length rows) stack → IsStack T flow ls from (length (rows ++ New g)) (Entered g from passed rows ∷ stack)
+  entered_stack stack from rows g passed is was stacked = (is, refl, (let a = length-append rows (New g) in let b = own_count T Globals g in omega arith), was, stacked)
+
+  pub entered_seated : (stack : List Stacked) (from : ℕ) (rows : List (List Content)) (memory : ℕ → ℤ) (g frame : ℕ) (passed : List (Option ℕ)) → IsStack T flow ls from (length rows) stack → Seated T flow.globals stack rows memory →
+      Seated T flow.globals (Entered g frame passed rows ∷ stack) (rows ++ New g) memory
+  entered_seated stack from rows memory g frame passed stacked s = record {
     sized = record { global = sized_global; own = sized_own };
     known = λ k i n has e. by k i n has e (own_or_before (length rows) k);
   }
@@ -79,20 +82,20 @@ module _ (T : Target) (flow : Flow) (ls : List VWords) where
       sized_global : (k : ℕ) (x : Global) → slice_get flow.globals k ≡ Some x → length (row_in (rows ++ New g) k) ≡ x.words
       sized_global k x e = ap length (row_left rows (New g) k (let b = get_below flow.globals k x e in let f = globals_first T flow ls stack from (length rows) stacked in omega arith)) ∙ s.sized.global k x e
 
-      sized_own : (x : Stacked) (j a : ℕ) (array : Array) → IsIn x (record { function = g; frame = frame; base = length rows } ∷ stack) → slice_get (own_arrays T Globals x.function) j ≡ Some a → slice_get (T.graph x.function).arrays a ≡ Some array → length (row_in (rows ++ New g) (x.base + j)) ≡ array.words
+      sized_own : (x : Stacked) (j a : ℕ) (array : Array) → IsIn x (Entered g frame passed rows ∷ stack) → slice_get (own_arrays T Globals x.function) j ≡ Some a → slice_get (T.graph x.function).arrays a ≡ Some array → length (row_in (rows ++ New g) (x.base + j)) ≡ array.words
       sized_own x j a array (inl q) own has = subst (λ (y : Stacked). slice_get (own_arrays T Globals y.function) j ≡ Some a → slice_get (T.graph y.function).arrays a ≡ Some array → length (row_in (rows ++ New g) (y.base + j)) ≡ array.words) (sym q) here own has
         where
           here : slice_get (own_arrays T Globals g) j ≡ Some a → slice_get (T.graph g).arrays a ≡ Some array → length (row_in (rows ++ New g) (length rows + j)) ≡ array.words
           here o h = ap length (row_right rows (New g) j ∙ own_row T Globals g j a array o h) ∙ length-replicate array.words None
       sized_own x j a array (inr i) own has = ap length (row_left rows (New g) (x.base + j) (own_low T flow ls stack from (length rows) stacked x i j a own)) ∙ s.sized.own x j a array i own has
 
-      by : (k i : ℕ) (n : ℤ) → HasCell (rows ++ New g) k i → slice_index_or (row_in (rows ++ New g) k) i None ≡ Some n → (length rows ≤ k) ⊎ (k < length rows) → word_at memory (seat T flow.globals (record { function = g; frame = frame; base = length rows } ∷ stack) k + i) ≡ n
+      by : (k i : ℕ) (n : ℤ) → HasCell (rows ++ New g) k i → slice_index_or (row_in (rows ++ New g) k) i None ≡ Some n → (length rows ≤ k) ⊎ (k < length rows) → word_at memory (seat T flow.globals (Entered g frame passed rows ∷ stack) k + i) ≡ n
       by k i n has e (inl le) =
           let q : length rows + (k - length rows) ≡ k = omega arith in
           absurd (undefined_unknown (own_of Globals (T.graph g)) (k - length rows) i n (ap (λ r. slice_index_or r i None) (sym (row_right rows (New g) (k - length rows)) ∙ ap (row_in (rows ++ New g)) q) ∙ e))
       by k i n has e (inr lt) =
           let q = row_left rows (New g) k lt in
-          ap (λ y. word_at memory (y + i)) (seat_before T flow.globals (record { function = g; frame = frame; base = length rows }) stack k lt) ∙ s.known k i n (subst (λ (r : List Content). i < length r) q has) (ap (λ r. slice_index_or r i None) (sym q) ∙ e)
+          ap (λ y. word_at memory (y + i)) (seat_before T flow.globals (Entered g frame passed rows) stack k lt) ∙ s.known k i n (subst (λ (r : List Content). i < length r) q has) (ap (λ r. slice_index_or r i None) (sym q) ∙ e)
 
   -- it returns, and its rows go
 
@@ -101,13 +104,13 @@ module _ (T : Target) (flow : Flow) (ls : List VWords) where
     returned_count = length-take-le x.base rows (let l = stacked.2 in omega arith)
 
     pub returned_stack : IsStack T flow ls (from + T.frame) (length (take x.base rows)) stack
-    returned_stack = subst (λ c. IsStack T flow ls (from + T.frame) c stack) (sym returned_count) stacked.3
+    returned_stack = subst (λ c. IsStack T flow ls (from + T.frame) c stack) (sym returned_count) stacked.4
 
     pub returned_seated : (memory : ℕ → ℤ) → Seated T flow.globals (x ∷ stack) rows memory → Seated T flow.globals stack (take x.base rows) memory
     returned_seated memory s = record {
       sized = record {
-        global = λ k y e. ap length (same k (let b = get_below flow.globals k y e in let f = globals_first T flow ls stack (from + T.frame) x.base stacked.3 in omega arith)) ∙ s.sized.global k y e;
-        own = λ y j a array i own has. ap length (same (y.base + j) (own_low T flow ls stack (from + T.frame) x.base stacked.3 y i j a own)) ∙ s.sized.own y j a array (inr i) own has;
+        global = λ k y e. ap length (same k (let b = get_below flow.globals k y e in let f = globals_first T flow ls stack (from + T.frame) x.base stacked.4 in omega arith)) ∙ s.sized.global k y e;
+        own = λ y j a array i own has. ap length (same (y.base + j) (own_low T flow ls stack (from + T.frame) x.base stacked.4 y i j a own)) ∙ s.sized.own y j a array (inr i) own has;
       };
       known = λ k i n has e.
           (let low : k < x.base = (let t = row_there (take x.base rows) k i has in let c = returned_count in omega arith) in

@@ -99,6 +99,7 @@ pub record IsFramed (T : Target) (flow : Flow) (f : ℕ) : Type 0 where
   pub slots : (u v : ℕ) → NeedsSlot T f u → NeedsSlot T f v → T.slot f u ≡ T.slot f v → u ≡ v
   pub own_from : (a i : ℕ) → length flow.globals ≤ a → HasWord T f a i → 1 ≤ T.array_at f a
   pub own_to : (a i : ℕ) → length flow.globals ≤ a → HasWord T f a i → T.array_at f a + i < T.frame
+  pub own_end : (a : ℕ) (array : Array) → length flow.globals ≤ a → slice_get (T.graph f).arrays a ≡ Some array → T.array_at f a + array.words ≤ T.frame
   pub own_apart : (a b i j : ℕ) → length flow.globals ≤ a → length flow.globals ≤ b → HasWord T f a i → HasWord T f b j → T.array_at f a + i ≡ T.array_at f b + j → (a ≡ b) × (i ≡ j)
   pub slot_own : (v a i : ℕ) → NeedsSlot T f v → length flow.globals ≤ a → HasWord T f a i → T.slot f v ≢ T.array_at f a + i
   pub globals : (a : ℕ) → a < length flow.globals → T.array_at f a ≡ words_before flow.globals a

@@ -3,7 +3,7 @@ use Rattle.std.specs.Prelude.{◌≡◌, ◌≢◌, ◌<◌, ◌≤◌, ◌+◌,
 use Rattle.vx_flow.specs.declared.graph.Array.{Array}
 use Rattle.vx_flow.specs.declared.graph.Flow.{Flow}
 use Rattle.vx_flow.specs.Effects.{Content, IsIn}
-use Rattle.vx_flow.specs.Meaning.{spot_of}
+use Rattle.vx_flow.specs.Meaning.{spot_in}
 use Rattle.vx_mixed.specs.declared.layout.VWords.{VWords}
 use Rattle.vx_target.specs.Target.{Target, memory_words}
 use Rattle.vx_target.specs.Tied.{IsFunction, Stacked, HasCell, row_in, word_at, begins_at, words_before}
@@ -30,6 +30,10 @@ pub record Seats (T : Target) (globals : ℕ) (stack : List Stacked) (rows : Lis
   pub apart : (k l i j : ℕ) → HasCell rows k i → HasCell rows l j → at k + i ≡ at l + j → (k ≡ l) × (i ≡ j)
   -- none is where an activation, active or waiting, has its link, or the slot of a value
   pub free : (x : Stacked) (word k i : ℕ) → IsIn x stack → Framed T x word → HasCell rows k i → word ≢ at k + i
-  -- array a of an activation is the row at its spot: it begins where that row has its seat, and has as many words
-  pub begins : (x : Stacked) (a : ℕ) (array : Array) → IsIn x stack → slice_get (T.graph x.function).arrays a ≡ Some array → begins_at T x.frame x.function a ≡ at (spot_of globals x.base a)
-  pub sizes : (x : Stacked) (a : ℕ) (array : Array) → IsIn x stack → slice_get (T.graph x.function).arrays a ≡ Some array → length (row_in rows (spot_of globals x.base a)) ≡ array.words
+  -- each row begins within it, also one without words
+  pub low : (k : ℕ) → k < length rows → at k ≤ memory_words T
+  -- each array of an activation is the row at its spot
+  pub stands : (x : Stacked) (a : ℕ) (array : Array) → IsIn x stack → slice_get (T.graph x.function).arrays a ≡ Some array → spot_in globals x.passed x.base a < length rows
+  -- one that was not handed over begins where that row has its seat, and has as many words
+  pub begins : (x : Stacked) (a : ℕ) (array : Array) → IsIn x stack → slice_get (T.graph x.function).arrays a ≡ Some array → array.base ≡ None → begins_at T x.frame x.function a ≡ at (spot_in globals x.passed x.base a)
+  pub sizes : (x : Stacked) (a : ℕ) (array : Array) → IsIn x stack → slice_get (T.graph x.function).arrays a ≡ Some array → array.base ≡ None → length (row_in rows (spot_in globals x.passed x.base a)) ≡ array.words

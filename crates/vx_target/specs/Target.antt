@@ -10,13 +10,13 @@ use Rattle.vx_flow.specs.declared.graph.Bank.TheVariants.{General, Branch}
 use Rattle.vx_flow.specs.declared.graph.Operand.{Operand}
 use Rattle.vx_flow.specs.declared.graph.Operand.TheVariants.{Held as HeldValue, Number as AsNumber, Stack}
 use Rattle.vx_flow.specs.declared.graph.Op.{Op}
-use Rattle.vx_flow.specs.declared.graph.Op.TheVariants.{Compute as Computes, Select as Selects, Place, Load as Loads, Store as Stores, More as Asks, Input as Takes, Text, Decimal, Across}
+use Rattle.vx_flow.specs.declared.graph.Op.TheVariants.{Compute as Computes, Select as Selects, Place, Load as Loads, Store as Stores, More as Asks, Input as Takes, Text, Decimal, Across, Base, PlaceIn}
 use Rattle.vx_flow.specs.declared.graph.Graph.{Graph}
 use Rattle.vx_flow.specs.Effects.{writes}
 use Rattle.vx_flow.specs.Meaning.{deepest}
 use Rattle.vx_flow.specs.declared.operands.Reads.{Reads}
 use Rattle.vx_flow.specs.Operands.{read_by, written_by}
-use Rattle.vx_flow.specs.Sound.{is_local}
+use Rattle.vx_flow.specs.Sound.{is_local, is_handed as is_handed_array}
 use Rattle.vx_flow.specs.Walk.{numbers}
 use Rattle.vx_isa.specs.Machine.{cycles_of}
 use Rattle.vx_isa.specs.Fits.{fits}
@@ -70,6 +70,10 @@ parameters_of T f = (T.graph f).parameters
 -- the array is one of the function's own, and stands in its frame
 abbrev pub is_own : Target → (function array : ℕ) → Bool
 is_own T f a = is_local (T.graph f).arrays a
+
+-- the array was handed to the function, and stands where its base says
+abbrev pub is_handed : Target → (function array : ℕ) → Bool
+is_handed T f a = is_handed_array (T.graph f).arrays a
 
 -- the bytes of so many words
 abbrev pub bytes : ℕ → ℤ
@@ -158,16 +162,20 @@ source_of names Stack = Number (pos 0)
 abbrev pub base_of : Target → ℕ → (cluster array : ℕ) → GeneralRegister
 base_of T f k a = if is_own T f a then stack_on k else zero_on k
 
--- an access is at the array's offset from a place, or at a number from its base
+-- a place of an array that was handed over is an address, those of other arrays are counted from where the array begins
+abbrev pub offset_of : Target → (function array : ℕ) → ℕ
+offset_of T f a = if is_handed T f a then 0 else T.array_at f a
+
+-- an access is at this offset from a place, or at a number from the array's base
 abbrev pub access_base : Target → ℕ → (ℕ → GeneralRegister) → (cluster array : ℕ) → Operand → GeneralRegister
 access_base T f names k a (HeldValue v) = names v
 access_base T f names k a (AsNumber n) = base_of T f k a
 access_base T f names k a Stack = base_of T f k a
 
 abbrev pub access_offset : Target → ℕ → (array : ℕ) → Operand → ℤ
-access_offset T f a (HeldValue v) = bytes (T.array_at f a)
-access_offset T f a (AsNumber n) = sum_of (bytes (T.array_at f a)) n
-access_offset T f a Stack = bytes (T.array_at f a)
+access_offset T f a (HeldValue v) = bytes (offset_of T f a)
+access_offset T f a (AsNumber n) = sum_of (bytes (offset_of T f a)) n
+access_offset T f a Stack = bytes (offset_of T f a)
 
 -- a code that moves has its own form
 abbrev pub computes : (cluster : ℕ) → Code → Register → GeneralRegister → Source → Source → Operation
@@ -186,6 +194,9 @@ carried T f rs ws k (Takes v) = Input (general_of T f ws v)
 carried T f rs ws k (Text n) = OutText n
 carried T f rs ws k (Decimal x) = OutDecimal (source_of (general_of T f rs) x)
 carried T f rs ws k (Across v u) = Move k (general_of T f ws v) (Held (general_of T f rs u))
+carried T f rs ws k (Base v a x) =
+    if is_own T f a then Compute k Add (InGeneral (general_of T f ws v)) (Held (stack_on k)) (Number (bytes (T.array_at f a))) else Move k (general_of T f ws v) (Number (bytes (T.array_at f a)))
+carried T f rs ws k (PlaceIn v a u i) = Compute k Sh2add (InGeneral (general_of T f ws v)) (source_of (general_of T f rs) i) (Held (general_of T f rs u))
 
 -- where a word leads that is only a transfer; else it is its own place
 abbrev pub past_word : (place : ℕ) → VirtualWord → ℕ

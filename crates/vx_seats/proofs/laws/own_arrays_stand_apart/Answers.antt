@@ -1,4 +1,4 @@
-use Rattle.vx_seats.proofs.Spots.{spots_apart}
+use Rattle.vx_target.proofs.Spots.{spots_apart}
 use Rattle.vx_seats.proofs.laws.own_arrays_stand_apart.Goals as goal
 
 pub returns : goal.returns
