@@ -1,10 +1,10 @@
 // What the words that carry a planned one take from a whole program.
 
 ghost use Rattle.std.specs.Prelude.{◌≡◌, slice_index_or};
-ghost use Rattle.vx_target.specs.Target.{is_own};
+ghost use Rattle.vx_target.specs.Target.{is_handed, is_own, offset_of};
 ghost use Rattle.vx_slots.specs.Seen.{places_of, seen};
 
-use vx_flow::arrays::is_local;
+use vx_flow::arrays::{is_handed, is_local};
 use vx_flow::graph::ArrayId;
 use vx_slots::program::{Whole, number_at};
 
@@ -15,6 +15,27 @@ pub(crate) fn array_at(whole: &Whole, function: u32, array: ArrayId) -> u32
     match whole.frames.get(function as usize) {
         Some(frame) => number_at(frame.arrays.as_slice(), array),
         None => 0,
+    }
+}
+
+/// Whether an array was handed to the function.
+fn was_handed(whole: &Whole, function: u32, array: ArrayId) -> bool
+    ensures { result ≡ is_handed (seen whole.now) function array }
+{
+    match whole.graphs.get(function as usize) {
+        Some(graph) => is_handed(graph.arrays.as_slice(), array),
+        None => false,
+    }
+}
+
+/// From where places of an array are counted, in words: those of an array that was handed over are addresses.
+pub(crate) fn offset_of(whole: &Whole, function: u32, array: ArrayId) -> u32
+    ensures { result ≡ offset_of (seen whole.now) function array }
+{
+    if was_handed(whole, function, array) {
+        0
+    } else {
+        array_at(whole, function, array)
     }
 }
 

@@ -1,12 +1,12 @@
 // The operations that carry those on values, in the registers by which a word names them.
 
 ghost use Rattle.std.specs.Prelude.{◌≡◌, ◌<◌, ◌^◌, if◌then◌else◌, pos, IfOk, length};
-ghost use Rattle.vx_flow.specs.declared.graph.Op.TheVariants.{Compute as ACompute, Select as ASelect, Place as APlace, Load as ALoad, Store as AStore};
+ghost use Rattle.vx_flow.specs.declared.graph.Op.TheVariants.{Compute as ACompute, Select as ASelect, Place as APlace, Load as ALoad, Store as AStore, Base as ABase, PlaceIn as APlaceIn};
 ghost use Rattle.vx_isa.specs.declared.operation.Source.TheVariants.{Held, Number};
 ghost use Rattle.vx_target.specs.Target.{bytes, stack_on, base_of, access_base, access_offset, computes, carried, general_of, branch_of, source_of, is_own};
 ghost use Rattle.vx_slots.specs.Seen.{seen};
 
-use crate::lookups::{array_at, is_own};
+use crate::lookups::{array_at, is_own, offset_of};
 use crate::word_plan::Site;
 use vx_arithmetic::add32;
 use vx_base::arithmetic::Code;
@@ -56,7 +56,7 @@ fn access_offset(
 ) -> Result<i32, NoMemory>
     ensures { IfOk result (λ offset. offset ≡ access_offset (seen whole.now) function array place) }
 {
-    let begin = bytes(array_at(whole, function, array))?;
+    let begin = bytes(offset_of(whole, function, array))?;
     match place {
         Operand::Held(_) => Ok(begin),
         Operand::Number(number) => Ok(add32(begin, number)),
@@ -219,6 +219,54 @@ fn carried_place(whole: &Whole, site: &Site, to: Value, array: ArrayId, index: O
     }
 }
 
+/// The base of an array as it is carried: the address of its first word.
+fn carried_base(
+    whole: &Whole,
+    site: &Site,
+    to: Value,
+    array: ArrayId,
+    from: Operand,
+) -> Result<Operation, NoMemory>
+    ensures { IfOk result (λ operation. operation ≡ carried (seen whole.now) site.now.function site.now.reads.now site.now.writes.now site.now.cluster (ABase to array from)) }
+{
+    let begin = bytes(array_at(whole, site.function, array))?;
+    if is_own(whole, site.function, array) {
+        Ok(Operation::Compute {
+            cluster: site.cluster,
+            code: Code::Add,
+            to: Register::General(target_of(whole, site, to)),
+            left: Source::Held(stack_on(site.cluster)),
+            right: Source::Number(begin),
+        })
+    } else {
+        Ok(Operation::Move {
+            cluster: site.cluster,
+            to: target_of(whole, site, to),
+            from: Source::Number(begin),
+        })
+    }
+}
+
+/// The place of an element of an array that was handed over, as it is carried.
+fn carried_place_in(
+    whole: &Whole,
+    site: &Site,
+    to: Value,
+    array: ArrayId,
+    base: Value,
+    index: Operand,
+) -> Operation
+    ensures { result ≡ carried (seen whole.now) site.now.function site.now.reads.now site.now.writes.now site.now.cluster (APlaceIn to array base index) }
+{
+    Operation::Compute {
+        cluster: site.cluster,
+        code: Code::Sh2add,
+        to: Register::General(target_of(whole, site, to)),
+        left: operand_of(whole, site, index),
+        right: Source::Held(general_of(whole, site.function, site.reads, base)),
+    }
+}
+
 /// The operation that carries one of a word.
 pub(crate) fn carried(whole: &Whole, site: &Site, op: &Op) -> Result<Operation, NoMemory>
     ensures { IfOk result (λ operation. operation ≡ carried (seen whole.now) site.now.function site.now.reads.now site.now.writes.now site.now.cluster op.now) }
@@ -237,6 +285,13 @@ pub(crate) fn carried(whole: &Whole, site: &Site, op: &Op) -> Result<Operation, 
             right,
         } => Ok(carried_select(whole, site, *to, *test, *left, *right)),
         Op::Place { to, array, index } => Ok(carried_place(whole, site, *to, *array, *index)),
+        Op::Base { to, array, from } => carried_base(whole, site, *to, *array, *from),
+        Op::PlaceIn {
+            to,
+            array,
+            base,
+            index,
+        } => Ok(carried_place_in(whole, site, *to, *array, *base, *index)),
         Op::Load {
             to,
             array,

@@ -204,6 +204,7 @@ module _ (W : Whole) (flow : Flow) (sound : SoundFlow flow) (found : Found W flo
       slots = λ u v n k e. frame.slots.apart u v (needed u n) (needed v k) e;
       own_from = λ a i le x. (let z = frame.arrays.own_from a x.array x.is (own a le) in let y = frame.behind_link in omega arith);
       own_to = λ a i le x. (let z = frame.arrays.own_to a x.array x.is (own a le) in let y = x.below in let c = ends in omega arith);
+      own_end = λ a array le is. (let z = frame.arrays.own_to a array is (own a le) in let c = ends in omega arith);
       own_apart = own_apart;
       slot_own = λ v a i n le x e. (let s = frame.slots.to v (needed v n) in let z = frame.arrays.own_from a x.array x.is (own a le) in let q : slice_index_or (FrameAt f).slots v 0 ≡ At a + i = e in omega arith);
       globals = global_at;

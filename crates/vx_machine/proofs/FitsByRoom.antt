@@ -4,7 +4,7 @@ use Rattle.std.specs.List.{flat_map}
 use Rattle.vx_base.specs.declared.arithmetic.Code.{Code}
 use Rattle.vx_base.specs.declared.arithmetic.Code.TheVariants.{Add, Sub, And, Or, Xor, Shl, Shr, Shru, Sh2add, Max, Min, Mov, ToGeneral, ToBranch, Mpylu, Mpyhs, Div, Rem}
 use Rattle.vx_flow.specs.declared.graph.Op.{Op}
-use Rattle.vx_flow.specs.declared.graph.Op.TheVariants.{Compute, Select, Place, Load, Store, More, Input, Text, Decimal, Across}
+use Rattle.vx_flow.specs.declared.graph.Op.TheVariants.{Compute, Select, Place, Load, Store, More, Input, Text, Decimal, Across, Base, PlaceIn}
 use Rattle.vx_flow.specs.declared.trace.Homes.{Homes}
 use Rattle.vx_isa.specs.declared.operation.UnitKind.{UnitKind}
 use Rattle.vx_isa.specs.declared.operation.UnitKind.TheVariants.{Alu, Multiply, Memory, Copies, Control}
@@ -54,6 +54,8 @@ no_control_op (Input v) = refl
 no_control_op (Text n) = refl
 no_control_op (Decimal x) = refl
 no_control_op (Across v u) = refl
+no_control_op (Base v a x) = refl
+no_control_op (PlaceIn v a u i) = refl
 
 split_is_control : (item : Item) → same_unit (unit_of_item item) Control ≡ is_split item
 split_is_control (Plain op) = no_control_op op

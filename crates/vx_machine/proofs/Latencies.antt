@@ -1,7 +1,7 @@
 -- On a machine no operation of a graph takes more than 16 cycles, and one that writes a value takes one at least.
 use Rattle.std.proofs.Common.{ℕ, ◌≤◌, arith}
 use Rattle.vx_flow.specs.declared.graph.Op.{Op}
-use Rattle.vx_flow.specs.declared.graph.Op.TheVariants.{Compute, Select, Place, Load, Store, More, Input, Text, Decimal, Across}
+use Rattle.vx_flow.specs.declared.graph.Op.TheVariants.{Compute, Select, Place, Load, Store, More, Input, Text, Decimal, Across, Base, PlaceIn}
 use Rattle.vx_flow.specs.Effects.{IsIn, writes}
 use Rattle.vx_isa.specs.Numbers.{Numbers, IsMachine}
 use Rattle.vx_isa.proofs.Ranges.{ranges, code_range}
@@ -18,6 +18,8 @@ few_cycles m one (Input v) = (ranges m one).load.most
 few_cycles m one (Text n) = omega arith
 few_cycles m one (Decimal x) = omega arith
 few_cycles m one (Across v u) = (ranges m one).copy.most
+few_cycles m one (Base v a x) = (ranges m one).alu.most
+few_cycles m one (PlaceIn v a u i) = (ranges m one).alu.most
 
 pub takes_time : (m : Numbers) → IsMachine m → (op : Op) (v : ℕ) → IsIn v (writes op) → 1 ≤ latency_of_op m op
 takes_time m one (Compute code u a b) v h = (code_range m (ranges m one) code).least
@@ -30,3 +32,5 @@ takes_time m one (Input u) v h = (ranges m one).load.least
 takes_time m one (Text n) v h = absurd h
 takes_time m one (Decimal x) v h = absurd h
 takes_time m one (Across u w) v h = (ranges m one).copy.least
+takes_time m one (Base u a x) v h = (ranges m one).alu.least
+takes_time m one (PlaceIn u a w i) v h = (ranges m one).alu.least

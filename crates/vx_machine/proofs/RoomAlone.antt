@@ -4,7 +4,7 @@ use Rattle.std.proofs.lemmas.Bool.{le-leb}
 use Rattle.std.proofs.lemmas.List.Sums.{count_by-le-length}
 use Rattle.vx_base.specs.declared.arithmetic.Code.TheVariants.{Add, Sub, And, Or, Xor, Shl, Shr, Shru, Sh2add, Max, Min, Mov, ToGeneral, ToBranch, Mpylu, Mpyhs, Div, Rem}
 use Rattle.vx_flow.specs.declared.graph.Op.{Op}
-use Rattle.vx_flow.specs.declared.graph.Op.TheVariants.{Compute, Select, Place, Load, Store, More, Input, Text, Decimal, Across}
+use Rattle.vx_flow.specs.declared.graph.Op.TheVariants.{Compute, Select, Place, Load, Store, More, Input, Text, Decimal, Across, Base, PlaceIn}
 use Rattle.vx_flow.specs.declared.trace.Homes.{Homes}
 use Rattle.vx_isa.specs.declared.operation.UnitKind.TheVariants.{Alu, Multiply, Memory, Copies}
 use Rattle.vx_isa.specs.Numbers.{Numbers}
@@ -56,6 +56,8 @@ few_reads_of_op (Input v) = none
 few_reads_of_op (Text n) = none
 few_reads_of_op (Decimal x) = one
 few_reads_of_op (Across v u) = one
+few_reads_of_op (Base v a x) = one
+few_reads_of_op (PlaceIn v a u i) = two
 
 few_reads : (item : Item) → length (general_reads item) ≤ 2
 few_reads (Plain op) = few_reads_of_op op

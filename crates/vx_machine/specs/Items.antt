@@ -4,7 +4,7 @@ use Rattle.vx_base.specs.declared.arithmetic.Code.TheVariants.{ToBranch}
 use Rattle.vx_flow.specs.declared.graph.Operand.{Operand}
 use Rattle.vx_flow.specs.declared.graph.Operand.TheVariants.{Held, Number, Stack}
 use Rattle.vx_flow.specs.declared.graph.Op.{Op}
-use Rattle.vx_flow.specs.declared.graph.Op.TheVariants.{Compute, Select, Place, Load, Store, More, Input, Text, Decimal, Across}
+use Rattle.vx_flow.specs.declared.graph.Op.TheVariants.{Compute, Select, Place, Load, Store, More, Input, Text, Decimal, Across, Base, PlaceIn}
 use Rattle.vx_flow.specs.declared.trace.TraceOp.{TraceOp}
 use Rattle.vx_flow.specs.declared.trace.TraceOp.TheVariants.{Plain as PlainOf, Split as SplitOf}
 use Rattle.vx_flow.specs.Operands.{is_observable}
@@ -33,6 +33,8 @@ unit_of_op (Input v) = Memory
 unit_of_op (Text n) = Memory
 unit_of_op (Decimal x) = Memory
 unit_of_op (Across v u) = Copies
+unit_of_op (Base v a x) = Alu
+unit_of_op (PlaceIn v a u i) = Alu
 
 abbrev pub unit_of_item : Item → UnitKind
 unit_of_item (Plain op) = unit_of_op op
@@ -50,6 +52,8 @@ latency_of_op m (Input v) = m.latency_load
 latency_of_op m (Text n) = 0
 latency_of_op m (Decimal x) = 0
 latency_of_op m (Across v u) = m.latency_copy
+latency_of_op m (Base v a x) = m.latency_alu
+latency_of_op m (PlaceIn v a u i) = m.latency_alu
 
 abbrev pub latency_of_item : Numbers → Item → ℕ
 latency_of_item m (Plain op) = latency_of_op m op
@@ -69,13 +73,14 @@ abbrev pub base_of : Operand → Operand
 base_of (Number n) = Stack
 base_of x = x
 
--- what an item reads of general registers, numbers and repeats kept; a place adds its index to the stack pointer, and a
--- test is no general value
+-- what an item reads of general registers, numbers and repeats kept; a place adds its index to the stack pointer, a
+-- base is made from the stack pointer or 0, and a test is no general value
 abbrev pub general_reads_of_op : Op → List Operand
 general_reads_of_op (Place v a i) = i ∷ Stack ∷ []
 general_reads_of_op (Load v a p dismissible) = base_of p ∷ []
 general_reads_of_op (Store a p x) = base_of p ∷ x ∷ []
 general_reads_of_op (Across v u) = Held u ∷ []
+general_reads_of_op (Base v a x) = x ∷ []
 general_reads_of_op op = operands_of op
 
 abbrev pub general_reads : Item → List Operand

@@ -1,7 +1,7 @@
 -- A call: what is live behind it is saved, the depth is tested, the stack pointers go down, and the arguments are passed.
 use Rattle.std.proofs.Common.{◌≡◌, ◌≢◌, ◌<◌, ◌≤◌, ◌⊎◌, inl, inr, ⊎_elim, ◌+◌, ◌-◌, ◌*◌, ◌^◌, ℕ, suc, ℤ, pos, neg_ℤ, Bool, true, false, Option, Some, None, List, [], ◌∷◌, ◌++◌, length, length-append, map, refl, sym, ap, ◌∙◌, subst, arith}
 use Rattle.std.specs.Prelude.{slice_get, if◌then◌else◌, nat_lt, nat_le}
-use Rattle.std.proofs.lemmas.Bool.{lt-ltb, le-ltb, le-leb, lt-leb, leb-true, leb-false, false_from_ne_true}
+use Rattle.std.proofs.lemmas.Bool.{cases_lt, lt-ltb, le-ltb, le-leb, lt-leb, leb-true, leb-false}
 use Rattle.std.proofs.lemmas.List.{append-nil}
 use Rattle.vx_base.specs.Arithmetic.{one_if, compare_of, unsigned, wrap, sum_of}
 use Rattle.vx_base.specs.declared.arithmetic.Code.TheVariants.{ToBranch}
@@ -11,6 +11,7 @@ use Rattle.vx_base.specs.declared.outcome.Trap.TheVariants.{Depth}
 use Rattle.vx_base.proofs.Runs.{run_reach, run_ends, safe_after, safe_end, reach_one}
 use Rattle.vx_flow.specs.declared.graph.Bank.{Bank}
 use Rattle.vx_flow.specs.declared.graph.Flow.{Flow}
+use Rattle.vx_flow.specs.declared.graph.Graph.{Graph}
 use Rattle.vx_flow.specs.declared.graph.Bank.TheVariants.{General as GeneralBank}
 use Rattle.vx_flow.specs.declared.graph.Operand.{Operand}
 use Rattle.vx_flow.specs.declared.graph.Operand.TheVariants.{Held as HeldValue, Number as AsNumber, Stack}
@@ -19,9 +20,10 @@ use Rattle.vx_flow.specs.declared.graph.Exit.TheVariants.{Call as Calling}
 use Rattle.vx_flow.proofs.Members.{in_left, in_right}
 use Rattle.std.specs.List.{flat_map}
 use Rattle.vx_flow.specs.Effects.{Content, State as VState, IsIn, held, value_in}
-use Rattle.vx_flow.specs.Meaning.{Active, Body, Frame, Hop, deepest, known, with_front, undefined, own_of, setting_with, setting_of, calls, enters, entered, at_entry, waits, body_hop, after_hop, next}
-use Rattle.vx_flow.specs.Sound.{Sound, SoundFlow, Callable, IsPlace, is_sound_flow}
-use Rattle.vx_flow.proofs.SoundFlowLaw.{told}
+use Rattle.vx_flow.specs.Meaning.{Active, Body, Frame, Hop, deepest, known, undefined, bases_of, own_of, setting_with, calls, enters, enters_with, spots_for, entered, at_entry, waits, body_hop, after_hop, next}
+use Rattle.vx_flow.specs.Sound.{Sound, SoundFlow, Callable, IsPlace, IsBase, IsBaseOperand, IsGivenBase, base_of, base_at, is_given_base, is_sound_flow}
+use Rattle.vx_flow.proofs.Entering.{Holds, spots_hold}
+use Rattle.vx_flow.proofs.SoundFlowLaw.{given_base_is, given_base_of, told}
 use Rattle.vx_isa.specs.declared.operation.Register.{Register}
 use Rattle.vx_isa.specs.declared.operation.Register.TheVariants.{General, Branch, Link}
 use Rattle.vx_isa.specs.declared.operation.Source.TheVariants.{Held, Number}
@@ -33,22 +35,23 @@ use Rattle.vx_mixed.specs.declared.layout.VirtualWord.TheVariants.{Call}
 use Rattle.vx_mixed.specs.declared.layout.VWords.{VWords}
 use Rattle.vx_layout.specs.Laid.{laid_program, laid_hop, some_word_hop, laid_body}
 use Rattle.vx_mixed.specs.LaidSettled.{bank_in}
-use Rattle.vx_layout.specs.Origins.{CallsAs}
+use Rattle.vx_layout.specs.Origins.{CallsAs, whole}
 use Rattle.vx_regs.specs.Intervals.{IsLive, here, beyond, is_live, result_of}
 use Rattle.vx_target.specs.Target.{Target, answer, kept, is_slotted, is_branch, home, holds_branch, branch_of, stack_on, parameters_of, register_of, one, pause, in_flight, bytes, save_words, leave_or_lower, argument_words, call_words, back_words, memory_words}
-use Rattle.vx_target.specs.Tied.{Tied, AtWord, Shows, Stacked, IsStack, Seated, Waits, Below, IsResult, stack_from, waiting_above, seat, Itself, is_place, kind_by, kind_of, word_at}
+use Rattle.vx_target.specs.Tied.{Tied, AtWord, Seating, IsShown, IsBaseShown, IsAnswer, Shows, Stacked, WasPassed, IsStack, Seated, Waits, Below, IsResult, active_at, waiting_at, stack_from, waiting_above, seat, seating, here_of, Itself, AsBase, kind_of, word_at}
 use Rattle.vx_target.specs.Carried.{Carries, IsFunctionOf, NeedsSlot, is_passed, is_saved, is_spilled, Survives}
 use Rattle.vx_target.specs.Seats.{Seats, is_slot}
 use Rattle.vx_target.proofs.Bytes.{unsigned_small}
 use Rattle.vx_target.proofs.Calm.{seen, AllFit, after, not_stuck, effect_is}
 use Rattle.vx_target.proofs.Proper.{itself, shows_itself}
-use Rattle.vx_target.proofs.Frames.{get_below, get_in, frame_room, link_in_frame, below_keep}
-use Rattle.vx_target.proofs.SeatRoom.{table, framed_from}
+use Rattle.vx_target.proofs.Frames.{get_below, get_some, get_in, frame_room, link_in_frame, below_keep}
+use Rattle.vx_target.proofs.SeatRoom.{seat_before, table, framed_from}
 use Rattle.vx_target.proofs.SeatSteps.{seated_on, entered_stack, entered_seated, frames_of, saved_of}
 use Rattle.vx_target.proofs.Live.{live_bank}
 use Rattle.vx_target.proofs.Names.{in_register, named, number_at, apart_mixed, not_zero, not_general, not_first_branch}
-use Rattle.vx_target.proofs.FromGraph.{branch_plain, parameter_plain, place_made, whole_bank, has_whole, whole_is}
+use Rattle.vx_target.proofs.FromGraph.{branch_plain, plain_kind, base_kind, whole_bank, has_whole, whole_is}
 use Rattle.vx_tie.proofs.Passing.{CanFetch, OperandAt, OperandsAt, Called as Given, pass_run}
+use Rattle.vx_tie.proofs.Handed.{aligned_by, base_spot, known_at, entry_at, map_at, base_operand, is_base_operand, not_base, given_is_base}
 use Rattle.vx_tie.proofs.Simple.{few_one}
 use Rattle.vx_mixed.specs.Settled.{NoTwice}
 use Rattle.vx_target.proofs.Enough.{some_cluster, some_issue}
@@ -100,15 +103,18 @@ module _ (T : Target) (flow : Flow) (ls : List VWords) (w : WordProgram) (sound 
   graph_sound : Sound (T.graph F)
   graph_sound = sound.graphs (T.graph F) (get_in flow.functions F (T.graph F) tied.is.graph)
 
-  at_word : AtWord T Sp p r u
-  at_word = ⊎_elim (λ a. absurd (let z : suc p ≡ 0 = sym block ∙ a.block in omega arith)) (λ a. let z : suc a.0 ≡ suc p = sym a.1.block ∙ block in let q : a.0 ≡ p = omega arith in subst (λ x. AtWord T Sp x r u) q a.1) tied.at
+  -- what the caller sees
+  abbrev Here : Seating
+  Here = here_of T flow.globals Sp r
+
+  at_word : AtWord T flow.globals Sp p r u
+  at_word = ⊎_elim (λ a. absurd (let z : suc p ≡ 0 = sym block ∙ a.block in omega arith)) (λ a. let z : suc a.0 ≡ suc p = sym a.1.block ∙ block in let q : a.0 ≡ p = omega arith in subst (λ x. AtWord T flow.globals Sp x r u) q a.1) tied.at
 
   hop_to : (h : Hop) → calls g (known (map (held S) arguments)) result (suc p) (suc (suc p)) S ≡ h → next (laid_program flow ls) r ≡ after_hop (laid_program flow ls) r h
   hop_to h e =
       ap (after_hop (laid_program flow ls) r)
       (ap (body_hop (laid_program flow ls) r) (ap (λ x. laid_body (length flow.globals) x (slice_get ls F)) tied.is.graph ∙ ap (λ l. laid_body (length flow.globals) (Some (T.graph F)) l) tied.is.layout)
-      ∙ ap (λ z. laid_hop (setting_with (laid_program flow ls) z r.base) (T.layout F) r.block S) tied.passed
-      ∙ ap (λ b. laid_hop (setting_of (laid_program flow ls) r.base) (T.layout F) b S) block ∙ ap (λ x. some_word_hop (setting_of (laid_program flow ls) r.base) p x S) plan ∙ e)
+      ∙ ap (λ b. laid_hop (setting_with (laid_program flow ls) r.passed r.base) (T.layout F) b S) block ∙ ap (λ x. some_word_hop (setting_with (laid_program flow ls) r.passed r.base) p x S) plan ∙ e)
 
   small : 4 * memory_words T < 2 ^ 32
   small = let c = carries.small in omega arith
@@ -298,16 +304,27 @@ module _ (T : Target) (flow : Flow) (ls : List VWords) (w : WordProgram) (sound 
       abbrev Exiting : Exit
       Exiting = Calling g arguments result site.next
 
+      caller_in : IsIn (T.graph F) flow.functions
+      caller_in = get_in flow.functions F (T.graph F) tied.is.graph
+
+      -- an argument is a general value and no place: its number stands for itself, or it is a base
+
       general : (v : ℕ) → IsIn (HeldValue v) arguments → slice_get (T.graph F).banks v ≡ Some GeneralBank
       general v i = graph_sound.exit_operands Exiting (HeldValue v) site.has i
 
-      plain : (v : ℕ) → IsIn (HeldValue v) arguments → (kind_of T F v ≡ Itself) × (holds_branch T F v ≡ false)
-      plain v i =
-          let h = general v i in
-          let whole = whole_is T F Any graph_sound of.mapped.code (λ a lt. tt) v GeneralBank h in (
-            ap kind_by (false_from_ne_true (is_place T F v) (λ e. let m = place_made T F Any graph_sound of.mapped.code v e in graph_sound.place_exit v m.0 Exiting (subst (λ x. IsPlace (T.graph F) x m.0) whole m.1) site.has (inl i))),
-            ap is_branch (whole_bank T F Any graph_sound of.mapped.code v GeneralBank (has_whole T F Any graph_sound of.mapped.code (λ a lt. tt) v GeneralBank h)),
-          )
+      same_whole : (v : ℕ) → IsIn (HeldValue v) arguments → whole (length (T.graph F).banks) v ≡ v
+      same_whole v i = whole_is T F Any graph_sound of.mapped.code (λ a lt. tt) v GeneralBank (general v i)
+
+      unbranched : (v : ℕ) → IsIn (HeldValue v) arguments → holds_branch T F v ≡ false
+      unbranched v i = ap is_branch (whole_bank T F Any graph_sound of.mapped.code v GeneralBank (has_whole T F Any graph_sound of.mapped.code (λ a lt. tt) v GeneralBank (general v i)))
+
+      plain : (v : ℕ) → IsIn (HeldValue v) arguments → (IsBase (T.graph F) v → ⊥) → kind_of T F v ≡ Itself
+      plain v i no_ = plain_kind T F Any graph_sound of.mapped.code v
+          (λ a k. graph_sound.place_exit v a Exiting (subst (λ x. IsPlace (T.graph F) x a) (same_whole v i) k) site.has (inl i))
+          (λ k. no_ (subst (IsBase (T.graph F)) (same_whole v i) k))
+
+      as_base : (v : ℕ) → IsIn (HeldValue v) arguments → IsBase (T.graph F) v → kind_of T F v ≡ AsBase v
+      as_base v i b = base_kind T F Any graph_sound of.mapped.code v (subst (IsBase (T.graph F)) (sym (same_whole v i)) b) ∙ ap AsBase (same_whole v i)
 
       in_operands : (v : ℕ) (xs : List Operand) → IsIn (HeldValue v) xs → IsIn v (flat_map value_in xs)
       in_operands v [] i = absurd i
@@ -324,7 +341,7 @@ module _ (T : Target) (flow : Flow) (ls : List VWords) (w : WordProgram) (sound 
 
       can : (v : ℕ) → IsIn (HeldValue v) arguments → CanFetch T.machine w fit T F Base carries.memory small some T.frame v
       can v i = record {
-        general = (plain v i).1;
+        general = unbranched v i;
         usable = record {
           cluster = of.mapped.homes p v (is_live (live v i));
           not_zero = not_zero T F of.mapped (v ∷ []) v (its_bank v i);
@@ -341,36 +358,38 @@ module _ (T : Target) (flow : Flow) (ls : List VWords) (w : WordProgram) (sound 
           let z : is_slotted (kept T F v) ≡ false = ap (λ y. is_slotted (kept T F y)) same ∙ ap is_slotted (survives x i).register in
           let y : true ≡ false = sym e ∙ z in cc)
 
-      operand_at : (a : Operand) (n : ℤ) → IsIn a arguments → held S a ≡ Some n → OperandAt T.machine w fit T F Base carries.memory small some E T.frame a n
-      operand_at (AsNumber z) n i e = cc
-      operand_at Stack n i e = absurd (cc)
-      operand_at (HeldValue v) n i e = (can v i, by (is_slotted (kept T F v)) refl (at_word.values v n (live v i) e))
+      -- what is passed for an argument
+
+      abbrev shown : Operand → ℤ
+      shown (HeldValue v) = if is_slotted (kept T F v) then word_at E.memory (Base + (T.frame + T.slot F v)) else seen E.registers (register_of T F (v ∷ []) v)
+      shown (AsNumber z) = z
+      shown Stack = pos 0
+
+      operand_at : (a : Operand) → IsIn a arguments → OperandAt T.machine w fit T F Base carries.memory small some E T.frame a (shown a)
+      operand_at (AsNumber z) i = refl
+      operand_at Stack i = graph_sound.exit_operands Exiting Stack site.has i
+      operand_at (HeldValue v) i = (can v i, refl)
+
+      operands_from : (xs : List Operand) → ((x : Operand) → IsIn x xs → IsIn x arguments) → OperandsAt T.machine w fit T F Base carries.memory small some E xs (map shown xs)
+      operands_from [] h = tt
+      operands_from (a ∷ xs) h = (operand_at a (h a (inl refl)), operands_from xs (λ x i. h x (inr i)))
+
+      shows : (v : ℕ) (n : ℤ) → IsIn (HeldValue v) arguments → S.values v ≡ Some n → Shows T Here F v n (shown (HeldValue v))
+      shows v n i e = by (is_slotted (kept T F v)) refl (at_word.values v n (live v i) e)
         where
-          by : (b : Bool) → is_slotted (kept T F v) ≡ b → Shows T Sp F v n (if b then word_at u.memory (Sp + T.slot F v) else register u (register_of T F (v ∷ []) v)) → (if b then word_at E.memory (Base + (T.frame + T.slot F v)) else seen E.registers (register_of T F (v ∷ []) v)) ≡ n
+          by : (b : Bool) → is_slotted (kept T F v) ≡ b → Shows T Here F v n (if b then word_at u.memory (Sp + T.slot F v) else register u (register_of T F (v ∷ []) v)) → Shows T Here F v n (if b then word_at E.memory (Base + (T.frame + T.slot F v)) else seen E.registers (register_of T F (v ∷ []) v))
           by true h k =
               let place : Base + (T.frame + T.slot F v) ≡ Sp + T.slot F v = (let c = base_is in omega arith) in
-              ap (word_at E.memory) place ∙ ap (λ m. word_at m (Sp + T.slot F v)) memory_e ∙ slot_same v (is_spilled p (is_live (live v i)) h) h ∙ itself k (plain v i).0
+              subst (λ x. Shows T Here F v n x) (sym (ap (word_at E.memory) place ∙ ap (λ m. word_at m (Sp + T.slot F v)) memory_e ∙ slot_same v (is_spilled p (is_live (live v i)) h) h)) k
           by false h k =
-              others_e (register_of T F (v ∷ []) v) (λ q. let z : is_branch_register (register_of T F (v ∷ []) v) ≡ false = ap (λ b. is_branch_register (named b (home T F v) (branch_of T F (v ∷ []) v) (number_at T F of.mapped (v ∷ []) v))) (plain v i).1 in let y : true ≡ false = sym (ap is_branch_register q) ∙ z in cc)
-              (not_general T F of.mapped (v ∷ []) v 0 2 (its_bank v i) (omega arith)) (λ k. not_general T F of.mapped (v ∷ []) v k 1 (its_bank v i) (omega arith)) ∙ itself k (plain v i).0
-
-      operands_from : (xs : List Operand) (ms : List ℤ) → ((x : Operand) → IsIn x xs → IsIn x arguments) → known (map (held S) xs) ≡ Some ms → OperandsAt T.machine w fit T F Base carries.memory small some E xs ms
-      operands_from [] [] h e = tt
-      operands_from [] (n ∷ ms) h e = absurd (cc)
-      operands_from (a ∷ xs) ms h e = by (held S a) refl (known (map (held S) xs)) refl e (λ ks ek. operands_from xs ks (λ x i. h x (inr i)) ek)
-        where
-          by : (x : Content) → held S a ≡ x → (y : Option (List ℤ)) → known (map (held S) xs) ≡ y → known (x ∷ map (held S) xs) ≡ Some ms → ((ks : List ℤ) → known (map (held S) xs) ≡ Some ks → OperandsAt T.machine w fit T F Base carries.memory small some E xs ks) → OperandsAt T.machine w fit T F Base carries.memory small some E (a ∷ xs) ms
-          by None ex y ey k more = absurd (cc)
-          by (Some n) ex None ey k more = absurd (let z : with_front n None ≡ Some ms = ap (with_front n) (sym ey) ∙ k in cc)
-          by (Some n) ex (Some ks) ey k more =
-              let z : with_front n (Some ks) ≡ Some ms = ap (with_front n) (sym ey) ∙ k in
-              let q : n ∷ ks ≡ ms = cc in
-              subst (λ l. OperandsAt T.machine w fit T F Base carries.memory small some E (a ∷ xs) l) q (operand_at a n (h a (inl refl)) ex, more ks ey)
+              subst (λ x. Shows T Here F v n x)
+              (sym (others_e (register_of T F (v ∷ []) v) (λ q. let z : is_branch_register (register_of T F (v ∷ []) v) ≡ false = ap (λ b. is_branch_register (named b (home T F v) (branch_of T F (v ∷ []) v) (number_at T F of.mapped (v ∷ []) v))) (unbranched v i) in let y : true ≡ false = sym (ap is_branch_register q) ∙ z in cc)
+              (not_general T F of.mapped (v ∷ []) v 0 2 (its_bank v i) (omega arith)) (λ k. not_general T F of.mapped (v ∷ []) v k 1 (its_bank v i) (omega arith)))) k
 
       -- the function that is called
 
       callable : Callable flow g (length arguments)
-      callable = sound.calls (T.graph F) g site.next arguments result (get_in flow.functions F (T.graph F) tied.is.graph) site.has
+      callable = sound.calls (T.graph F) g site.next arguments result caller_in site.has
 
       called_below : g < length flow.functions
       called_below = get_below flow.functions g callable.graph callable.is
@@ -378,19 +397,37 @@ module _ (T : Target) (flow : Flow) (ls : List VWords) (w : WordProgram) (sound 
       its : IsFunctionOf T flow ls g
       its = carries.functions g called_below
 
+      there : IsIn (T.graph g) flow.functions
+      there = get_in flow.functions g (T.graph g) its.is.graph
+
+      callee_sound : Sound (T.graph g)
+      callee_sound = sound.graphs (T.graph g) there
+
+      abbrev Globals : ℕ
+      Globals = length flow.globals
+
       abbrev Parameters : List ℕ
       Parameters = parameters_of T g
+
+      as_many : length Parameters ≡ length arguments
+      as_many =
+          let z : Some callable.graph ≡ Some (T.graph g) = sym callable.is ∙ its.is.graph in
+          let q : callable.graph ≡ T.graph g = cc in
+          ap (λ (h : Graph). length h.parameters) (sym q) ∙ callable.parameters
+
+      argument_at : (j v : ℕ) → slice_get Parameters j ≡ Some v → (a : Operand) × (slice_get arguments j ≡ Some a)
+      argument_at j v e = let l = get_below Parameters j v e in let q = as_many in get_some arguments j (omega arith)
 
       passing : Stands w.words E.place Passes
       passing = subst (λ q. Stands w.words q Passes) (sym lowered.place) (stands_right w.words C.place Leaves Passes branching)
 
-      passed : Given T.machine w fit T F Base carries.memory small some E g Parameters ns (length Passes)
-      passed = pass_run T.machine w fit T F Base carries.memory small some g Parameters arguments ns E lowered.quiet.calm stack_e passing
-          (operands_from arguments ns (λ x i. i) are)
+      passed : Given T.machine w fit T F Base carries.memory small some E g Parameters (map shown arguments) (length Passes)
+      passed = pass_run T.machine w fit T F Base carries.memory small some g Parameters arguments (map shown arguments) E lowered.quiet.calm stack_e passing
+          (operands_from arguments (λ x i. i))
           (λ x y i j sx sy. apart_mixed T F of.mapped (x ∷ []) (y ∷ []) x y (its_bank x i) (few_one T F of.mapped y (some_issue T.machine carries.machine)) (inl refl) sx sy)
           (λ v i. let a = its.framed.slot_to v (is_passed i) in let b = room in let c = base_is in omega arith)
           (λ v i. its.framed.slot_to v (is_passed i)) (λ x y i j e. its.framed.slots x y (is_passed i) (is_passed j) e)
-          (no_twice Parameters (λ i j v lt a b. sound.parameters (T.graph g) i j v (get_in flow.functions g (T.graph g) its.is.graph) lt a b))
+          (no_twice Parameters (λ i j v lt a b. sound.parameters (T.graph g) i j v there lt a b))
 
       abbrev G : State
       G = passed.to
@@ -423,43 +460,6 @@ module _ (T : Target) (flow : Flow) (ls : List VWords) (w : WordProgram) (sound 
       changes : (x : ℕ) → ((v : ℕ) → IsIn v Parameters → x ≢ Base + T.slot g v) → ((v : ℕ) → NeedsSlot T F v → x ≢ Sp + T.slot F v) → word_at G.memory x ≡ word_at u.memory x
       changes x h k = passed.elsewhere x h ∙ ap (λ m. word_at m x) memory_e ∙ saved_elsewhere x (λ v i. k v (needs v i))
 
-      -- rows and their seats
-
-      abbrev Globals : ℕ
-      Globals = length flow.globals
-
-      abbrev Rows : List (List Content)
-      Rows = S.arrays ++ map undefined (own_of Globals (T.graph g))
-
-      abbrev Callee : Stacked
-      Callee = record { function = g; frame = Base; base = length S.arrays }
-
-      abbrev Caller : Stacked
-      Caller = record { function = F; frame = Sp; base = r.base }
-
-      abbrev Activations : List Stacked
-      Activations = Callee ∷ stack_from T Sp r
-
-      stacked : IsStack T flow ls Base (length Rows) Activations
-      stacked = entered_stack T flow ls (stack_from T Sp r) Base S.arrays g its.is (subst (λ x. IsStack T flow ls x (length S.arrays) (stack_from T Sp r)) (sym base_is) tied.stacked)
-
-      entered_rows : Seated T flow.globals Activations Rows u.memory
-      entered_rows = entered_seated T flow ls (stack_from T Sp r) Sp S.arrays u.memory g Base tied.stacked tied.seated
-
-      the_table : Seats T Globals Activations Rows u.memory (λ k. seat T flow.globals Activations k)
-      the_table = table T flow ls sound (frames_of T flow ls w carries) Activations Base Rows u.memory stacked (let a = enough in let c = base_is in omega arith) entered_rows
-
-      seated : Seated T flow.globals Activations Rows G.memory
-      seated = seated_on T flow.globals Activations Rows u.memory G.memory
-          (λ k i has. changes (seat T flow.globals Activations k + i)
-          (λ v j e. the_table.free Callee (Base + T.slot g v) k i (inl refl) (is_slot v (is_passed j) refl) has (sym e))
-          (λ v needed e. the_table.free Caller (Sp + T.slot F v) k i (inr (inl refl)) (is_slot v needed refl) has (sym e)))
-          entered_rows
-
-      -- as the frame of the caller stands above that of the called
-      abbrev Above : ℕ → List Stacked
-      Above x = Callee ∷ record { function = F; frame = x; base = r.base } ∷ waiting_above T x r.waiting
-
       -- the caller waits
 
       abbrev Waiter : Frame
@@ -469,16 +469,16 @@ module _ (T : Target) (flow : Flow) (ls : List VWords) (w : WordProgram) (sound 
       result_in None v i = i
       result_in (Some x) v i = ⊎_elim (λ e. e) (λ j. absurd j) i
 
-      waiting_values : (v : ℕ) (n : ℤ) → IsLive (T.layout F) (suc p) v → (IsResult result v → ⊥) → S.values v ≡ Some n → Shows T Sp F v n (word_at G.memory (Sp + T.slot F v))
+      waiting_values : (v : ℕ) (n : ℤ) → IsLive (T.layout F) (suc p) v → (IsResult result v → ⊥) → S.values v ≡ Some n → Shows T Here F v n (word_at G.memory (Sp + T.slot F v))
       waiting_values v n lives no_ e = by (is_slotted (kept T F v)) refl (at_word.values v n (beyond plan (λ i. no_ (result_in result v i)) refl lives) e)
         where
-          by : (b : Bool) → is_slotted (kept T F v) ≡ b → Shows T Sp F v n (if b then word_at u.memory (Sp + T.slot F v) else register u (register_of T F (v ∷ []) v)) → Shows T Sp F v n (word_at G.memory (Sp + T.slot F v))
-          by true h k = subst (λ x. Shows T Sp F v n x) (sym (above_base (Sp + T.slot F v) (omega arith) ∙ slot_same v (is_spilled (suc p) (is_live lives) h) h)) k
+          by : (b : Bool) → is_slotted (kept T F v) ≡ b → Shows T Here F v n (if b then word_at u.memory (Sp + T.slot F v) else register u (register_of T F (v ∷ []) v)) → Shows T Here F v n (word_at G.memory (Sp + T.slot F v))
+          by true h k = subst (λ x. Shows T Here F v n x) (sym (above_base (Sp + T.slot F v) (omega arith) ∙ slot_same v (is_spilled (suc p) (is_live lives) h) h)) k
           by false h k =
               let number = in_register (kept T F v) h in
               let there : IsIn v Saved = of.saved.saves p g v arguments result plan (record { live = lives; other = no_; number = number.0; register = number.1 }) in
-              let was : Shows T Sp F v n (seen u.registers (register_of T F Saved v)) = subst (λ x. Shows T Sp F v n x) (ap (register u) (own_name T F v (v ∷ []) Saved h)) k in
-              subst (λ x. Shows T Sp F v n x) (sym (above_base (Sp + T.slot F v) (omega arith) ∙ saved_at v there)) (kept_shows T Sp F v n (seen u.registers (register_of T F Saved v)) (branch_plain T F Any graph_sound of.mapped.code v) was)
+              let was : Shows T Here F v n (seen u.registers (register_of T F Saved v)) = subst (λ x. Shows T Here F v n x) (ap (register u) (own_name T F v (v ∷ []) Saved h)) k in
+              subst (λ x. Shows T Here F v n x) (sym (above_base (Sp + T.slot F v) (omega arith) ∙ saved_at v there)) (kept_shows T Here F v n (seen u.registers (register_of T F Saved v)) (branch_plain T F Any graph_sound of.mapped.code v) was)
 
       waits_at : Waits T flow ls G.memory Sp Waiter r.waiting
       waits_at = record {
@@ -490,13 +490,12 @@ module _ (T : Target) (flow : Flow) (ls : List VWords) (w : WordProgram) (sound 
         from = refl;
         next = refl;
         values = waiting_values;
-        passed = tied.passed;
         link = free_above Sp (omega arith) (λ v needed e. let a = of.framed.slot_from v needed in omega arith) ∙ sym (link_in_frame T u Sp F p g arguments result plan) ∙ at_word.link;
       }
 
       rest_below : Below T flow ls G.memory Sp r.waiting
       rest_below = below_keep T flow ls (saved_of T flow ls w carries) r.waiting u.memory G.memory Sp
-          (λ x word i framed. let z = framed_from T flow ls (waiting_above T Sp r.waiting) (Sp + T.frame) r.base tied.stacked.3 x word i framed in
+          (λ x word i framed. let z = framed_from T flow ls (waiting_above T Sp r.waiting) (Sp + T.frame) r.base tied.stacked.4 x word i framed in
           free_above word (omega arith) (λ v needed e. let a = of.framed.slot_to v needed in omega arith))
           tied.below
 
@@ -506,10 +505,7 @@ module _ (T : Target) (flow : Flow) (ls : List VWords) (w : WordProgram) (sound 
       -- the step over values
 
       abbrev TheBody : Body
-      TheBody = record { parameters = Parameters; own = own_of Globals (T.graph g); hop = λ setting b s. laid_hop setting (T.layout g) b s }
-
-      abbrev Entered : Active
-      Entered = record { function = g; block = 0; passed = []; base = length S.arrays; state = entered TheBody ns S; waiting = Waiter ∷ r.waiting }
+      TheBody = record { parameters = Parameters; bases = bases_of Globals (T.graph g); own = own_of Globals (T.graph g); hop = λ setting b s. laid_hop setting (T.layout g) b s }
 
       body_is : (laid_program flow ls).body g ≡ Some TheBody
       body_is = ap (λ x. laid_body Globals x (slice_get ls g)) its.is.graph ∙ ap (λ l. laid_body Globals (Some (T.graph g)) l) its.is.layout
@@ -517,43 +513,188 @@ module _ (T : Target) (flow : Flow) (ls : List VWords) (w : WordProgram) (sound 
       not_full : nat_le deepest (length r.waiting + 1) ≡ false
       not_full = lt-leb deepest (length r.waiting + 1) (omega arith)
 
-      steps : next (laid_program flow ls) r ≡ On Entered
-      steps =
+      abbrev Spots : Option (List (Option ℕ))
+      Spots = spots_for (Some TheBody) ns S
+
+      goes_in : (o : Option (List (Option ℕ))) → Spots ≡ o → next (laid_program flow ls) r ≡ enters_with g (Some TheBody) ns S (Waiter ∷ r.waiting) o
+      goes_in o e =
           hop_to (Hop.Calls g ns result (suc p) (suc (suc p)) S) (ap (λ x. calls g x result (suc p) (suc (suc p)) S) are)
           ∙ ap (λ b. if b then Over (Traps Depth S.out) else enters g ((laid_program flow ls).body g) ns S (Waiter ∷ r.waiting)) not_full
           ∙ ap (λ x. enters g x ns S (Waiter ∷ r.waiting)) body_is
+          ∙ ap (enters_with g (Some TheBody) ns S (Waiter ∷ r.waiting)) e
 
-      -- the slots of the parameters show what is passed
-      passed_values : (v : ℕ) (n : ℤ) → at_entry Parameters ns v ≡ Some n → IsIn v Parameters × Shows T Base g v n (word_at G.memory (Base + T.slot g v))
-      passed_values v n e =
-          let k = passed.values v n e in
-          let p = parameter_plain T g Any (sound.graphs (T.graph g) (get_in flow.functions g (T.graph g) its.is.graph)) its.mapped.code (λ a lt. tt) v k.0 in
-          (k.0, shows_itself T Base g v n (word_at G.memory (Base + T.slot g v)) p.0 (λ b. absurd (let z : true ≡ false = sym b ∙ p.1 in cc)) k.1)
+      -- the function is entered with the spots that its bases hold
 
-      called_on : CarriesOn T flow ls w r u
-      called_on = record {
-        after = Entered;
-        to = G;
-        words = forth_g.0;
-        steps = 0;
-        over_values = one_on flow ls r Entered steps;
-        over_registers = λ n. run_reach (step T.machine (1 ∷ []) w) (λ x. x.out) (suc forth_g.0) n u G forth_g.1;
-        tied = record {
-          sp = Base;
-          is = its.is;
-          calm = passed.quiet.calm;
-          deep = record { is = (let e = tied.deep.is in let b = base_is in let k : ℕ = length r.waiting in let m : T.frame * suc (suc k) ≡ T.frame * suc k + T.frame = grind arith in omega arith); most = more };
-          stack = passed.stack;
-          at = inl (record { block = refl; place = passed.place; values = passed_values; link = link_is ∙ (let q : suc p - 1 ≡ p = omega arith in ap (λ n. wrap (pos (T.back F n))) (sym q)) });
-          passed = refl;
-          stacked = subst (λ x. IsStack T flow ls Base (length Rows) (Above x)) (sym base_is) stacked;
-          seated = subst (λ x. Seated T flow.globals (Above x) Rows G.memory) (sym base_is) seated;
-          below = all_below;
-          input = passed.quiet.input ∙ lowered.quiet.input ∙ quiet_c.input ∙ tied.input;
-          out = passed.quiet.out ∙ lowered.quiet.out ∙ quiet_c.out ∙ tied.out;
-          safe = safe_after (next (laid_program flow ls)) (λ x. x.state.out) 1 r Entered (reach_one (next (laid_program flow ls)) r Entered steps) tied.safe;
-        };
-      }
+      module _ (spots : List (Option ℕ)) (spotted : Spots ≡ Some spots) where
+        holds_spots : Holds (length S.arrays) (bases_of Globals (T.graph g)) spots
+        holds_spots = spots_hold (length S.arrays) (at_entry Parameters ns) (bases_of Globals (T.graph g)) spots spotted
+
+        -- rows and their seats
+
+        abbrev Rows : List (List Content)
+        Rows = S.arrays ++ map undefined (own_of Globals (T.graph g))
+
+        abbrev Callee : Stacked
+        Callee = record { function = g; frame = Base; passed = spots; base = length S.arrays }
+
+        abbrev Activations : List Stacked
+        Activations = Callee ∷ stack_from T Sp r
+
+        was_passed : WasPassed T Globals Callee
+        was_passed = record { aligned = aligned_by Globals (T.graph g) (length S.arrays) spots holds_spots; below = holds_spots.below }
+
+        stacked : IsStack T flow ls Base (length Rows) Activations
+        stacked = entered_stack T flow ls (stack_from T Sp r) Base S.arrays g spots its.is was_passed (subst (λ x. IsStack T flow ls x (length S.arrays) (stack_from T Sp r)) (sym base_is) tied.stacked)
+
+        entered_rows : Seated T flow.globals Activations Rows u.memory
+        entered_rows = entered_seated T flow ls (stack_from T Sp r) Sp S.arrays u.memory g Base spots tied.stacked tied.seated
+
+        the_table : Seats T Globals Activations Rows u.memory (λ k. seat T flow.globals Activations k)
+        the_table = table T flow ls sound (frames_of T flow ls w carries) Activations Base Rows u.memory stacked (let a = enough in let c = base_is in omega arith) entered_rows
+
+        seated : Seated T flow.globals Activations Rows G.memory
+        seated = seated_on T flow.globals Activations Rows u.memory G.memory
+            (λ k i has. changes (seat T flow.globals Activations k + i)
+            (λ v j e. the_table.free Callee (Base + T.slot g v) k i (inl refl) (is_slot v (is_passed j) refl) has (sym e))
+            (λ v needed e. the_table.free (active_at Sp r) (Sp + T.slot F v) k i (inr (inl refl)) (is_slot v needed refl) has (sym e)))
+            entered_rows
+
+        -- as the frame of the caller stands above that of the called
+        abbrev Over_it : ℕ → List Stacked
+        Over_it x = waiting_at x Waiter ∷ waiting_above T x r.waiting
+
+        -- what is shown to the caller is shown to the called: the slots of the parameters show what is passed
+
+        abbrev Inside : Seating
+        Inside = seating T flow.globals Callee (stack_from T Sp r)
+
+        behind_globals : (a v : ℕ) → base_at (T.graph g).arrays a ≡ Some v → Globals ≤ a
+        behind_globals a v has = ⊎_elim
+            (λ lt. absurd (let x = get_some flow.globals a lt in let k = sound.globals (T.graph g) a x.0 there x.1 in let z : None ≡ Some v = sym k.base ∙ ap base_of (sym k.is) ∙ has in cc))
+            (λ le. le)
+            (cases_lt a Globals)
+
+        base_shown : (c v : ℕ) (n x : ℤ) → at_entry Parameters ns v ≡ Some n → IsBaseShown (T.graph F).arrays Here c n x → IsBaseShown (T.graph g).arrays Inside v n x
+        base_shown c v n x e s =
+            let q = tied.stacked.2 in
+            let l = s.stands in
+            let lt : s.row < length S.arrays = omega arith in
+            record {
+              row = s.row;
+              stands = omega arith;
+              number = s.number;
+              word = s.word ∙ ap (λ y. pos (4 * y)) (sym (seat_before T flow.globals Callee (stack_from T Sp r) s.row lt));
+              spots = λ a has. base_spot Globals (T.graph g) (length S.arrays) (at_entry Parameters ns) spots spotted a v (behind_globals a v has) has s.row (e ∙ ap Some s.number);
+            }
+
+        abbrev Parameter_shown : (v : ℕ) (n x : ℤ) → Type 0
+        Parameter_shown v n x = Shows T Inside g v n x
+
+        module _ (v : ℕ) (n : ℤ) (j : ℕ) (parameter : slice_get Parameters j ≡ Some v) (entry : at_entry Parameters ns v ≡ Some n) where
+          is_in : IsIn v Parameters
+          is_in = get_in Parameters j v parameter
+
+          whole_there : whole (length (T.graph g).banks) v ≡ v
+          whole_there = whole_is T g Any callee_sound its.mapped.code (λ a lt. tt) v GeneralBank (callee_sound.parameters v is_in)
+
+          no_branch : holds_branch T g v ≡ false
+          no_branch = ap is_branch (whole_bank T g Any callee_sound its.mapped.code v GeneralBank (has_whole T g Any callee_sound its.mapped.code (λ a lt. tt) v GeneralBank (callee_sound.parameters v is_in)))
+
+          no_answer : IsAnswer (holds_branch T g v) n
+          no_answer b = absurd (let z : true ≡ false = sym b ∙ no_branch in cc)
+
+          module _ (a : Operand) (argument : slice_get arguments j ≡ Some a) (known_there : held S a ≡ Some n) where
+            agree : (IsBaseOperand (T.graph F) a → IsGivenBase (T.graph g) v) × (IsGivenBase (T.graph g) v → IsBaseOperand (T.graph F) a)
+            agree = sound.handed (T.graph F) (T.graph g) g site.next j v arguments result a caller_in site.has its.is.graph argument parameter
+
+            -- a base for a base
+            as_given : IsGivenBase (T.graph g) v → Parameter_shown v n (shown a)
+            as_given k = by a (base_operand (T.graph F) a (agree.1 k)) (get_in arguments j a argument) known_there
+              where
+                kind : kind_of T g v ≡ AsBase v
+                kind = base_kind T g Any callee_sound its.mapped.code v (subst (IsBase (T.graph g)) (sym whole_there) (given_is_base (T.graph g) v k)) ∙ ap AsBase whole_there
+
+                by : (x : Operand) → (c : ℕ) × (x ≡ HeldValue c) × IsBase (T.graph F) c → IsIn x arguments → held S x ≡ Some n → Parameter_shown v n (shown x)
+                by (AsNumber z) b i e = absurd (let q = b.1 in cc)
+                by Stack b i e = absurd (let q = b.1 in cc)
+                by (HeldValue c) b i e =
+                    let q = b.1 in
+                    let same : b.0 ≡ c = cc in
+                    let its_kind = as_base c i (subst (IsBase (T.graph F)) same b.2) in
+                    record {
+                      answer = no_answer;
+                      is = subst (λ d. IsShown (T.graph g).arrays Inside d n (shown (HeldValue c))) (sym kind) (base_shown c v n (shown (HeldValue c)) entry (subst (λ d. IsShown (T.graph F).arrays Here d n (shown (HeldValue c))) its_kind (shows c n i e).is));
+                    }
+
+            -- and a number for what is none
+            as_number : (IsGivenBase (T.graph g) v → ⊥) → Parameter_shown v n (shown a)
+            as_number no_ = by a (λ k. no_ (agree.0 k)) (get_in arguments j a argument) known_there
+              where
+                kind : kind_of T g v ≡ Itself
+                kind = plain_kind T g Any callee_sound its.mapped.code v
+                    (λ b k. callee_sound.place_parameter v b (subst (λ x. IsPlace (T.graph g) x b) whole_there k) is_in)
+                    (λ k. not_base (T.graph g) v callee_sound is_in no_ (subst (IsBase (T.graph g)) whole_there k))
+
+                by : (x : Operand) → (IsBaseOperand (T.graph F) x → ⊥) → IsIn x arguments → held S x ≡ Some n → Parameter_shown v n (shown x)
+                by (AsNumber z) b i e = let q : z ≡ n = cc in shows_itself T Inside g v n z kind no_answer q
+                by Stack b i e = absurd (cc)
+                by (HeldValue c) b i e = shows_itself T Inside g v n (shown (HeldValue c)) kind no_answer (itself (shows c n i e) (plain c i (λ k. b (is_base_operand (T.graph F) c k))))
+
+            parameter_shows : Parameter_shown v n (shown a)
+            parameter_shows = by (is_given_base (T.graph g) v) refl
+              where
+                by : (b : Bool) → is_given_base (T.graph g) v ≡ b → Parameter_shown v n (shown a)
+                by true t = as_given (given_base_is (T.graph g) v t)
+                by false t = as_number (λ k. absurd (let z : true ≡ false = sym (given_base_of (T.graph g) v k) ∙ t in cc))
+
+        passed_values : (v : ℕ) (n : ℤ) → at_entry Parameters ns v ≡ Some n → IsIn v Parameters × Shows T Inside g v n (word_at G.memory (Base + T.slot g v))
+        passed_values v n e =
+            let k = entry_at Parameters ns (map shown arguments) v n e in
+            let a = argument_at k.place v k.parameter in
+            let put = passed.values v (shown a.0) (k.other (shown a.0) (map_at shown arguments k.place a.0 a.1)) in
+            (put.0, subst (λ x. Shows T Inside g v n x) (sym put.1) (parameter_shows v n k.place k.parameter e a.0 a.1 (known_at S arguments ns are k.place a.0 n a.1 k.number)))
+
+        -- together
+
+        abbrev Entered : Active
+        Entered = record { function = g; block = 0; passed = spots; base = length S.arrays; state = entered TheBody ns S; waiting = Waiter ∷ r.waiting }
+
+        steps : next (laid_program flow ls) r ≡ On Entered
+        steps = goes_in (Some spots) spotted
+
+        entry_values : (v : ℕ) (n : ℤ) → at_entry Parameters ns v ≡ Some n → IsIn v Parameters × Shows T (seating T flow.globals Callee (Over_it (Base + T.frame))) g v n (word_at G.memory (Base + T.slot g v))
+        entry_values v n e = let k = passed_values v n e in (k.0, subst (λ x. Shows T (seating T flow.globals Callee (Over_it x)) g v n (word_at G.memory (Base + T.slot g v))) (sym base_is) k.1)
+
+        called_on : CarriesOn T flow ls w r u
+        called_on = record {
+          after = Entered;
+          to = G;
+          words = forth_g.0;
+          steps = 0;
+          over_values = one_on flow ls r Entered steps;
+          over_registers = λ n. run_reach (step T.machine (1 ∷ []) w) (λ x. x.out) (suc forth_g.0) n u G forth_g.1;
+          tied = record {
+            sp = Base;
+            is = its.is;
+            calm = passed.quiet.calm;
+            deep = record { is = (let e = tied.deep.is in let b = base_is in let k : ℕ = length r.waiting in let m : T.frame * suc (suc k) ≡ T.frame * suc k + T.frame = grind arith in omega arith); most = more };
+            stack = passed.stack;
+            at = inl (record { block = refl; place = passed.place; values = entry_values; link = link_is ∙ (let q : suc p - 1 ≡ p = omega arith in ap (λ n. wrap (pos (T.back F n))) (sym q)) });
+            stacked = subst (λ x. IsStack T flow ls Base (length Rows) (Callee ∷ Over_it x)) (sym base_is) stacked;
+            seated = subst (λ x. Seated T flow.globals (Callee ∷ Over_it x) Rows G.memory) (sym base_is) seated;
+            below = all_below;
+            input = passed.quiet.input ∙ lowered.quiet.input ∙ quiet_c.input ∙ tied.input;
+            out = passed.quiet.out ∙ lowered.quiet.out ∙ quiet_c.out ∙ tied.out;
+            safe = safe_after (next (laid_program flow ls)) (λ x. x.state.out) 1 r Entered (reach_one (next (laid_program flow ls)) r Entered steps) tied.safe;
+          };
+        }
+
+      called_by : (o : Option (List (Option ℕ))) → Spots ≡ o → CarriesOn T flow ls w r u
+      called_by None e = absurd (safe_end (next (laid_program flow ls)) (λ q. q.state.out) r (Outcome.Wrong S.out) (goes_in None e) tied.safe tt)
+      called_by (Some spots) e = called_on spots e
+
+      called : CarriesOn T flow ls w r u
+      called = called_by Spots refl
 
   -- where no further function may be active both runs end by the trap of the depth
 
@@ -610,7 +751,7 @@ module _ (T : Target) (flow : Flow) (ls : List VWords) (w : WordProgram) (sound 
 
   by_depth : (ns : List ℤ) → known (map (held S) arguments) ≡ Some ns → (b : Bool) → nat_le deepest (length r.waiting + 1) ≡ b → CarriesOn T flow ls w r u ⊎ EndsAlike T flow ls w r u
   by_depth ns are true e = inr (ends_alike (let l = leb-true deepest (length r.waiting + 1) e in omega arith) ns are)
-  by_depth ns are false e = inl (called_on (let l = leb-false deepest (length r.waiting + 1) e in omega arith) ns are)
+  by_depth ns are false e = inl (called (let l = leb-false deepest (length r.waiting + 1) e in omega arith) ns are)
 
   by_known : (x : Option (List ℤ)) → known (map (held S) arguments) ≡ x → CarriesOn T flow ls w r u ⊎ EndsAlike T flow ls w r u
   by_known None e = absurd (safe_end (next (laid_program flow ls)) (λ q. q.state.out) r (Outcome.Wrong S.out) (hop_to Hop.Wrong (ap (λ x. calls g x result (suc p) (suc (suc p)) S) e)) tied.safe tt)

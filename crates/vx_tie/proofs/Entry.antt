@@ -6,7 +6,7 @@ use Rattle.vx_base.proofs.Runs.{Reach, run_reach, safe_after}
 use Rattle.vx_flow.specs.declared.graph.Bank.{Bank}
 use Rattle.vx_flow.specs.declared.graph.Flow.{Flow}
 use Rattle.vx_flow.specs.Effects.{IsIn}
-use Rattle.vx_flow.specs.Meaning.{Active, setting_with, setting_of, body_hop, after_hop, next}
+use Rattle.vx_flow.specs.Meaning.{Active, setting_with, body_hop, after_hop, next}
 use Rattle.vx_flow.specs.Sound.{Sound, SoundFlow, is_sound_flow}
 use Rattle.vx_flow.proofs.SoundFlowLaw.{told}
 use Rattle.vx_isa.specs.declared.operation.Register.{Register}
@@ -23,13 +23,13 @@ use Rattle.vx_regs.specs.Intervals.{IsLive, is_live}
 use Rattle.vx_regs.specs.declared.map.Kept.{Kept}
 use Rattle.vx_regs.specs.declared.map.Kept.TheVariants.{InRegister}
 use Rattle.vx_target.specs.Target.{Target, answer, general, stack_on, kept, is_slotted, parameters_of, holds_branch, register_of, one, pause, in_flight, settled, is_caller, load_slots, past, link_words, way, wanted, entry_words, memory_words}
-use Rattle.vx_target.specs.Tied.{Tied, AtEntry, Below, Seated, Shows, stack_from, waiting_above, seat, Itself, holds, kind_of, word_at, link_in}
+use Rattle.vx_target.specs.Tied.{Tied, AtEntry, Below, Seated, Seating, Shows, active_at, here_of, stack_from, waiting_above, seat, holds, word_at, link_in}
 use Rattle.vx_target.specs.Seats.{Seats, is_link}
 use Rattle.vx_target.specs.Carried.{Carries, IsFunctionOf, is_passed, Arrives}
 use Rattle.vx_tie.specs.Planned.{CarriesOn, FallsThrough, EntryLaw}
 use Rattle.vx_tie.proofs.PastTransfers.{Led, led_past, steps_on}
 use Rattle.vx_target.proofs.Calm.{seen, AllFit, Going}
-use Rattle.vx_target.proofs.FromGraph.{branch_plain, parameter_plain}
+use Rattle.vx_target.proofs.FromGraph.{branch_plain}
 use Rattle.vx_target.proofs.Names.{in_register, apart_registers, not_zero, not_general, not_scratch}
 use Rattle.vx_target.proofs.Live.{live_bank}
 use Rattle.vx_target.proofs.Enough.{some_cluster, some_issue}
@@ -69,7 +69,10 @@ module _ (T : Target) (flow : Flow) (ls : List VWords) (w : WordProgram) (sound 
   abbrev Any : ℕ → Type 0
   Any a = Unit {0}
 
-  at_entry : AtEntry T Sp r u
+  abbrev Here : Seating
+  Here = here_of T flow.globals Sp r
+
+  at_entry : AtEntry T flow.globals Sp r u
   at_entry = ⊎_elim (λ a. a) (λ a. absurd (let z : suc a.0 ≡ 0 = sym a.1.block ∙ block in omega arith)) tied.at
 
   small : 4 * memory_words T < 2 ^ 32
@@ -90,10 +93,6 @@ module _ (T : Target) (flow : Flow) (ls : List VWords) (w : WordProgram) (sound 
 
   room : Sp + T.frame ≤ memory_words T
   room = frame_room T flow carries.some_frame carries.globals sound Sp (length r.waiting) tied.deep
-
-  -- parameters are general values and no places
-  plain : (v : ℕ) → IsIn v (parameters_of T F) → (kind_of T F v ≡ Itself) × (holds_branch T F v ≡ false)
-  plain v i = parameter_plain T F Any graph_sound of.mapped.code (λ a lt. tt) v i
 
   passed_inside : (v : ℕ) → IsIn v (parameters_of T F) → Sp + T.slot F v < memory_words T
   passed_inside v i = let a = of.framed.slot_to v (is_passed i) in let b = room in omega arith
@@ -327,11 +326,10 @@ module _ (T : Target) (flow : Flow) (ls : List VWords) (w : WordProgram) (sound 
   first_step =
       ap (after_hop (laid_program flow ls) r)
       (ap (body_hop (laid_program flow ls) r) (ap (λ g. laid_body (length flow.globals) g (slice_get ls F)) tied.is.graph ∙ ap (λ l. laid_body (length flow.globals) (Some (T.graph F)) l) tied.is.layout)
-      ∙ ap (λ z. laid_hop (setting_with (laid_program flow ls) z r.base) (T.layout F) r.block r.state) tied.passed
-      ∙ ap (λ b. laid_hop (setting_of (laid_program flow ls) r.base) (T.layout F) b r.state) block)
+      ∙ ap (λ b. laid_hop (setting_with (laid_program flow ls) r.passed r.base) (T.layout F) b r.state) block)
 
-  led : Led T flow ls r tied.is tied.passed Entry Inside
-  led = led_past T flow ls r tied.is tied.passed Entry
+  led : Led T flow ls r tied.is Entry Inside
+  led = led_past T flow ls r tied.is Entry
 
   reach : Reach (next (laid_program flow ls)) (suc led.steps) r After
   reach = (First, first_step, led.over_values)
@@ -339,16 +337,16 @@ module _ (T : Target) (flow : Flow) (ls : List VWords) (w : WordProgram) (sound 
   same_slot : (v : ℕ) → IsIn v (parameters_of T F) → word_at done.to.memory (Sp + T.slot F v) ≡ word_at u.memory (Sp + T.slot F v)
   same_slot v i = done.elsewhere (Sp + T.slot F v) (λ e. let z = of.framed.slot_from v (is_passed i) in omega arith)
 
-  values : (v : ℕ) (n : ℤ) → IsLive (T.layout F) Inside v → r.state.values v ≡ Some n → Shows T Sp F v n (holds T done.to Sp F v)
+  values : (v : ℕ) (n : ℤ) → IsLive (T.layout F) Inside v → r.state.values v ≡ Some n → Shows T Here F v n (holds T done.to Sp F v)
   values v n live e =
       let k = at_entry.values v n e in by k.0 k.1 (is_slotted (kept T F v)) refl
     where
-      by : IsIn v (parameters_of T F) → Shows T Sp F v n (word_at u.memory (Sp + T.slot F v)) → (b : Bool) → is_slotted (kept T F v) ≡ b → Shows T Sp F v n (if b then word_at done.to.memory (Sp + T.slot F v) else register done.to (register_of T F (v ∷ []) v))
-      by i m true h = subst (λ x. Shows T Sp F v n x) (sym (same_slot v i)) m
+      by : IsIn v (parameters_of T F) → Shows T Here F v n (word_at u.memory (Sp + T.slot F v)) → (b : Bool) → is_slotted (kept T F v) ≡ b → Shows T Here F v n (if b then word_at done.to.memory (Sp + T.slot F v) else register done.to (register_of T F (v ∷ []) v))
+      by i m true h = subst (λ x. Shows T Here F v n x) (sym (same_slot v i)) m
       by i m false h =
           let number = in_register (kept T F v) h in
           let there = of.saved.brings v (record { passed = i; live = led.live v live; number = number.0; register = number.1 }) in
-          subst (λ x. Shows T Sp F v n x) (sym (ap (register done.to) (own_name T F v (v ∷ []) Brought h) ∙ done.brought v there)) (read_shows T Sp F v n (word_at u.memory (Sp + T.slot F v)) (branch_plain T F Any graph_sound of.mapped.code v) m)
+          subst (λ x. Shows T Here F v n x) (sym (ap (register done.to) (own_name T F v (v ∷ []) Brought h) ∙ done.brought v there)) (read_shows T Here F v n (word_at u.memory (Sp + T.slot F v)) (branch_plain T F Any graph_sound of.mapped.code v) m)
 
   -- memory: only the first word of the frame has changed
 
@@ -357,12 +355,12 @@ module _ (T : Target) (flow : Flow) (ls : List VWords) (w : WordProgram) (sound 
 
   seated : Seated T flow.globals (stack_from T Sp r) r.state.arrays done.to.memory
   seated = seated_on T flow.globals (stack_from T Sp r) r.state.arrays u.memory done.to.memory
-      (λ k i has. done.elsewhere (seat T flow.globals (stack_from T Sp r) k + i) (λ e. the_table.free (record { function = F; frame = Sp; base = r.base }) Sp k i (inl refl) (is_link refl) has (sym e)))
+      (λ k i has. done.elsewhere (seat T flow.globals (stack_from T Sp r) k + i) (λ e. the_table.free (active_at Sp r) Sp k i (inl refl) (is_link refl) has (sym e)))
       tied.seated
 
   waiting : Below T flow ls done.to.memory Sp r.waiting
   waiting = below_keep T flow ls (saved_of T flow ls w carries) r.waiting u.memory done.to.memory Sp
-      (λ x word i framed. done.elsewhere word (λ q. let y = carries.some_frame in let z = framed_from T flow ls (waiting_above T Sp r.waiting) (Sp + T.frame) r.base tied.stacked.3 x word i framed in omega arith)) tied.below
+      (λ x word i framed. done.elsewhere word (λ q. let y = carries.some_frame in let z = framed_from T flow ls (waiting_above T Sp r.waiting) (Sp + T.frame) r.base tied.stacked.4 x word i framed in omega arith)) tied.below
 
   tied_after : Tied T flow ls After done.to
   tied_after = record {
@@ -372,7 +370,6 @@ module _ (T : Target) (flow : Flow) (ls : List VWords) (w : WordProgram) (sound 
     deep = tied.deep;
     stack = done.stack;
     at = inr (Inside, record { block = refl; place = done.place; values = values; link = done.link ∙ at_entry.link });
-    passed = tied.passed;
     stacked = tied.stacked;
     seated = seated;
     below = waiting;

@@ -1,7 +1,6 @@
 -- The words of a return: the result comes to the answer's register, and the run to the place that the link names.
 use Rattle.std.proofs.Common.{◌≡◌, ◌≢◌, ◌<◌, ◌≤◌, inl, ⊎_elim, ◌+◌, ◌*◌, ◌^◌, ◌==◌, ◌&&◌, ℕ, zero, suc, ℤ, pos, Bool, true, false, Some, List, [], ◌∷◌, ◌++◌, length, length-append, refl, sym, ap, ◌∙◌, subst, arith}
 use Rattle.std.specs.Prelude.{slice_get, if◌then◌else◌}
-use Rattle.std.proofs.lemmas.Bool.{false_from_ne_true}
 use Rattle.std.proofs.lemmas.List.{append-nil}
 use Rattle.vx_base.specs.Arithmetic.{unsigned, wrap}
 use Rattle.vx_base.proofs.WrapLaws.{unsigned-wrap}
@@ -12,8 +11,8 @@ use Rattle.vx_flow.specs.declared.graph.Operand.{Operand}
 use Rattle.vx_flow.specs.declared.graph.Operand.TheVariants.{Held as HeldValue, Number as AsNumber, Stack}
 use Rattle.vx_flow.specs.declared.graph.Exit.TheVariants.{Return as Returning}
 use Rattle.vx_flow.specs.Effects.{State as VState, held}
-use Rattle.vx_flow.specs.Meaning.{Active, Hop, leaves, setting_with, setting_of, body_hop, after_hop, next}
-use Rattle.vx_flow.specs.Sound.{Sound, SoundFlow, IsPlace, HasExit}
+use Rattle.vx_flow.specs.Meaning.{Active, Hop, leaves, setting_with, body_hop, after_hop, next}
+use Rattle.vx_flow.specs.Sound.{Sound, SoundFlow, IsPlace, IsBase, HasExit}
 use Rattle.vx_isa.specs.declared.operation.Register.{Register}
 use Rattle.vx_isa.specs.declared.operation.Register.TheVariants.{General, Link}
 use Rattle.vx_isa.specs.declared.operation.Source.TheVariants.{Held}
@@ -29,14 +28,14 @@ use Rattle.vx_layout.specs.Laid.{laid_program, laid_hop, some_word_hop, laid_bod
 use Rattle.vx_mixed.specs.LaidSettled.{bank_in}
 use Rattle.vx_regs.specs.Intervals.{IsLive, here, is_live}
 use Rattle.vx_target.specs.Target.{Target, answer, general, kept, is_slotted, is_branch, holds_branch, stack_on, register_of, one, together, pause, in_flight, settled, is_caller, fetch_words, fetched, last_beside, leave_words, return_words, memory_words}
-use Rattle.vx_target.specs.Tied.{Tied, AtWord, Shows, Itself, back_place, is_place, kind_by, kind_of, word_at}
+use Rattle.vx_target.specs.Tied.{Tied, AtWord, Seating, Shows, here_of, Itself, back_place, kind_of, word_at}
 use Rattle.vx_target.specs.Carried.{Carries, IsFunctionOf, is_spilled}
 use Rattle.vx_target.proofs.Bytes.{unsigned_small}
 use Rattle.vx_target.proofs.Calm.{seen, put_at, put_off, AllFit, after}
 use Rattle.vx_target.proofs.Enough.{some_cluster}
 use Rattle.vx_target.proofs.Proper.{itself}
 use Rattle.vx_target.proofs.Frames.{get_below, get_in, frame_room}
-use Rattle.vx_target.proofs.FromGraph.{place_made, whole_bank, has_whole, whole_is}
+use Rattle.vx_target.proofs.FromGraph.{plain_kind, whole_bank, has_whole, whole_is}
 use Rattle.vx_target.proofs.Live.{live_bank}
 use Rattle.vx_target.proofs.Names.{not_zero, not_general}
 use Rattle.vx_tie.proofs.Passing.{CanFetch, OperandAt, Got, fetch_run}
@@ -85,16 +84,18 @@ module _ (T : Target) (flow : Flow) (ls : List VWords) (w : WordProgram) (sound 
   graph_sound : Sound (T.graph F)
   graph_sound = sound.graphs (T.graph F) (get_in flow.functions F (T.graph F) tied.is.graph)
 
-  at_word : AtWord T Sp p r u
-  at_word = ⊎_elim (λ a. absurd (let z : suc p ≡ 0 = sym block ∙ a.block in omega arith)) (λ a. let z : suc a.0 ≡ suc p = sym a.1.block ∙ block in let q : a.0 ≡ p = omega arith in subst (λ y. AtWord T Sp y r u) q a.1) tied.at
+  abbrev Here : Seating
+  Here = here_of T flow.globals Sp r
+
+  at_word : AtWord T flow.globals Sp p r u
+  at_word = ⊎_elim (λ a. absurd (let z : suc p ≡ 0 = sym block ∙ a.block in omega arith)) (λ a. let z : suc a.0 ≡ suc p = sym a.1.block ∙ block in let q : a.0 ≡ p = omega arith in subst (λ y. AtWord T flow.globals Sp y r u) q a.1) tied.at
 
   -- over values
   pub hop_to : (h : Hop) → leaves (held S x) S ≡ h → next (laid_program flow ls) r ≡ after_hop (laid_program flow ls) r h
   hop_to h e =
       ap (after_hop (laid_program flow ls) r)
       (ap (body_hop (laid_program flow ls) r) (ap (λ y. laid_body (length flow.globals) y (slice_get ls F)) tied.is.graph ∙ ap (λ l. laid_body (length flow.globals) (Some (T.graph F)) l) tied.is.layout)
-      ∙ ap (λ z. laid_hop (setting_with (laid_program flow ls) z r.base) (T.layout F) r.block S) tied.passed
-      ∙ ap (λ b. laid_hop (setting_of (laid_program flow ls) r.base) (T.layout F) b S) block ∙ ap (λ y. some_word_hop (setting_of (laid_program flow ls) r.base) p y S) plan ∙ e)
+      ∙ ap (λ b. laid_hop (setting_with (laid_program flow ls) r.passed r.base) (T.layout F) b S) block ∙ ap (λ y. some_word_hop (setting_with (laid_program flow ls) r.passed r.base) p y S) plan ∙ e)
 
   small : 4 * memory_words T < 2 ^ 32
   small = let c = carries.small in omega arith
@@ -149,7 +150,9 @@ module _ (T : Target) (flow : Flow) (ls : List VWords) (w : WordProgram) (sound 
   plain v e =
       let h = general_bank v e in
       let whole = whole_is T F Any graph_sound of.mapped.code (λ a lt. tt) v GeneralBank h in (
-        ap kind_by (false_from_ne_true (is_place T F v) (λ i. let m = place_made T F Any graph_sound of.mapped.code v i in graph_sound.place_exit v m.0 (Returning x) (subst (λ y. IsPlace (T.graph F) y m.0) whole m.1) has_exit (inl (inl (sym e))))),
+        plain_kind T F Any graph_sound of.mapped.code v
+            (λ a i. graph_sound.place_exit v a (Returning x) (subst (λ y. IsPlace (T.graph F) y a) whole i) has_exit (inl (inl (sym e))))
+            (λ i. graph_sound.base_returned v x (subst (IsBase (T.graph F)) whole i) has_exit e),
         ap is_branch (whole_bank T F Any graph_sound of.mapped.code v GeneralBank (has_whole T F Any graph_sound of.mapped.code (λ a lt. tt) v GeneralBank h)),
       )
 
@@ -177,7 +180,7 @@ module _ (T : Target) (flow : Flow) (ls : List VWords) (w : WordProgram) (sound 
     operand_at Stack i e = absurd (cc)
     operand_at (HeldValue v) i e = (can v i, by (is_slotted (kept T F v)) (at_word.values v n (live v i) e))
       where
-        by : (b : Bool) → Shows T Sp F v n (if b then word_at u.memory (Sp + T.slot F v) else register u (register_of T F (v ∷ []) v)) → (if b then word_at u.memory (Sp + (0 + T.slot F v)) else seen u.registers (register_of T F (v ∷ []) v)) ≡ n
+        by : (b : Bool) → Shows T Here F v n (if b then word_at u.memory (Sp + T.slot F v) else register u (register_of T F (v ∷ []) v)) → (if b then word_at u.memory (Sp + (0 + T.slot F v)) else seen u.registers (register_of T F (v ∷ []) v)) ≡ n
         by true k = let place : Sp + (0 + T.slot F v) ≡ Sp + T.slot F v = omega arith in ap (word_at u.memory) place ∙ itself k (plain v i).0
         by false k = itself k (plain v i).0
 

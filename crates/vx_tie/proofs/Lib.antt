@@ -8,6 +8,7 @@ pub mod Lowering
 pub mod Start
 pub mod Stacks
 pub mod Passing
+pub mod Handed
 pub mod Calls
 pub mod Resulted
 pub mod Leaving

@@ -13,7 +13,7 @@ use Rattle.vx_flow.specs.declared.graph.Bank.TheVariants.{General as GeneralBank
 use Rattle.vx_flow.specs.declared.graph.Operand.{Operand}
 use Rattle.vx_flow.specs.declared.graph.Operand.TheVariants.{Held as HeldValue, Number as AsNumber, Stack}
 use Rattle.vx_flow.specs.declared.graph.Op.{Op}
-use Rattle.vx_flow.specs.declared.graph.Op.TheVariants.{Compute as Computes, Select as Selects, Place, Load as Loads, Store as Stores, More as Asks, Input as Takes, Text, Decimal, Across}
+use Rattle.vx_flow.specs.declared.graph.Op.TheVariants.{Compute as Computes, Select as Selects, Place, Load as Loads, Store as Stores, More as Asks, Input as Takes, Text, Decimal, Across, Base, PlaceIn}
 use Rattle.vx_flow.specs.declared.trace.Homes.{Homes}
 use Rattle.vx_flow.specs.Effects.{IsIn, is_unary, value_in, reads, writes}
 use Rattle.vx_flow.specs.Operands.{is_observable as is_observable_op}
@@ -26,6 +26,7 @@ use Rattle.vx_isa.specs.declared.operation.Source.{Source}
 use Rattle.vx_isa.specs.declared.operation.Source.TheVariants.{Held, Number}
 use Rattle.vx_isa.specs.declared.operation.UnitKind.TheVariants.{Alu, Copies}
 use Rattle.vx_isa.specs.declared.operation.Operation.{Operation}
+use Rattle.vx_isa.specs.declared.operation.Operation.TheVariants.{Compute, Move}
 use Rattle.vx_isa.specs.Operations.{cluster_of_register, is_general, is_zero, cluster_of, read_of, reads_of, list_of, destination_of, unit_of, unit_of_code, comes_from, is_observable}
 use Rattle.vx_isa.specs.Fits.{keeps_to_cluster, all_on, is_in_file, takes_read_port, takes_write_port}
 use Rattle.vx_isa.proofs.Lists.{count_by-append, count_by-cons, count_by-none}
@@ -38,10 +39,10 @@ use Rattle.vx_mixed.specs.declared.layout.Laid.{Laid}
 use Rattle.vx_mixed.specs.declared.layout.Laid.TheVariants.{Plain, Split}
 use Rattle.vx_mixed.specs.Settled.{read_there}
 use Rattle.vx_mixed.specs.LaidSettled.{bank_in, item_reads, item_writes, laid_reads, laid_writes, Plans}
-use Rattle.vx_target.specs.Target.{Target, home, is_branch, holds_branch, general, general_of, branch_of, register_of, source_of, access_base, is_own, stack_on, zero_on, computes, carried}
+use Rattle.vx_target.specs.Target.{Target, home, is_branch, holds_branch, general, general_of, branch_of, register_of, source_of, access_base, is_own, stack_on, zero_on, bytes, computes, carried}
 use Rattle.vx_target.specs.Carried.{IsMapped, item_of_laid}
 use Rattle.vx_target.proofs.Forms.{to_branch}
-use Rattle.vx_target.proofs.Proper.{PlainOperand, PlaceIn, ProperOp, ProperItems}
+use Rattle.vx_target.proofs.Proper.{PlainOperand, IsPlacedIn, ProperOp, ProperItems}
 use Rattle.vx_target.proofs.Names.{Few, file_self}
 use Rattle.vx_target.proofs.Enough.{few_reads, few_writes, named_busy, in_all_of, operands_code, across_source}
 use Rattle.vx_target.proofs.Limits.{Limits}
@@ -301,7 +302,7 @@ module _ (T : Target) (f : ℕ) (mapped : IsMapped T f) (sound : Sound (T.graph 
   plain_general (AsNumber n) h y i = absurd i
   plain_general Stack h y i = absurd i
 
-  place_general : (a : ℕ) (x : Operand) → PlaceIn T f IsArray a x → (y : ℕ) → IsIn y (value_in x) → holds_branch T f y ≡ false
+  place_general : (a : ℕ) (x : Operand) → IsPlacedIn T f IsArray a x → (y : ℕ) → IsIn y (value_in x) → holds_branch T f y ≡ false
   place_general a (HeldValue v) h y i = ⊎_elim (λ e. ap (holds_branch T f) e ∙ h.1) (λ j. absurd j) i
   place_general a (AsNumber n) h y i = absurd i
   place_general a Stack h y i = absurd i
@@ -542,6 +543,33 @@ module _ (T : Target) (f : ℕ) (mapped : IsMapped T f) (sound : Sound (T.graph 
       let src = across_source T f mapped sound IsArray p items plans proper bank u v u k u h.2 i refl (file_self T f mapped u) in
       general_result (Across v u) k v (carried T f Rs Ws k (Across v u)) i (inl refl) h.1 refl refl (ap (λ b. if b then Alu else Copies) (ne_eqb (home T f u) k (mapped.settled.across p v u k items plans i (as_general v (bank v (inr (in_writes (Across v u) k v i (inl refl)))) h.1)))) refl refl refl
       (λ c. needs_across c u (home_of TheHomes u) src) (both_true (general_filed T f mapped l Rs u few_r m (bank u (inl m)) (home_lt u (inl m)) h.2) refl) (same_eqb (home T f v) k to.0)
+  op_carries (Base v a x) k i = by (is_own T f a) h.from
+    where
+      h : ProperOp T f IsArray (Base v a x) k
+      h = proper_op (Base v a x) k items proper i
+
+      to : (home T f v ≡ k) × (InFile (General (general_of T f Ws v)) ≡ true)
+      to = result_there (Base v a x) k v i (inl refl) h.general
+
+      on : eqb (home T f v) k ≡ true
+      on = same_eqb (home T f v) k to.0
+
+      by : (own : Bool) → x ≡ (if own then Stack else AsNumber (pos 0)) → Carrying (at_item (Base v a x) k) (if own then Compute k Add (General (general_of T f Ws v)) (Held (stack_on k)) (Number (bytes (T.array_at f a))) else Move k (general_of T f Ws v) (Number (bytes (T.array_at f a)))) (v ∷ [])
+      by true e =
+          let r : Reading k (General (stack_on k) ∷ []) (ports (x ∷ [])) = subst (λ y. Reading k (General (stack_on k) ∷ []) (ports (y ∷ []))) (sym e) (one_read k (General (stack_on k)) refl (own_register k 1 (omega arith) h.below)) in
+          general_result (Base v a x) k v (Compute k Add (General (general_of T f Ws v)) (Held (stack_on k)) (Number (bytes (T.array_at f a)))) i (inl refl) h.general refl refl refl refl refl refl (needs_reads (Base v a x) k (General (stack_on k) ∷ []) refl r) r.filed (both_true on r.on)
+      by false e = general_result (Base v a x) k v (Move k (general_of T f Ws v) (Number (bytes (T.array_at f a)))) i (inl refl) h.general refl refl refl refl refl refl (needs_reads (Base v a x) k [] refl (none_read k (ports (x ∷ [])))) refl on
+  op_carries (PlaceIn v a u x) k i =
+      let op : Op = PlaceIn v a u x in
+      let h = proper_op op k items proper i in
+      let ra = operand_read k x (λ y j. here op k y i (in_left y (value_in x) (u ∷ []) j) (in_left y (value_in x) (u ∷ []) j) (plain_general x h.index y j)) in
+      let b = here op k u i (in_right u (value_in x) (u ∷ []) (inl refl)) (in_right u (value_in x) (u ∷ []) (inl refl)) h.base_general in
+      let rb = one_read k (General (N u)) b.0 b.1 in
+      let rs : List Register = read_of (source_of N x) ++ General (N u) ∷ [] in
+      let both = both_read k (read_of (source_of N x)) (General (N u) ∷ []) (ports (x ∷ [])) 1 ra rb in
+      let r = more_ports k rs (ports (x ∷ []) + 1) (ports (x ∷ HeldValue u ∷ [])) (let q = ports_cons x (HeldValue u ∷ []) in omega arith) both in
+      let to = result_there op k v i (inl refl) h.general in
+      general_result op k v (carried T f Rs Ws k op) i (inl refl) h.general refl refl refl refl refl refl (needs_reads op k rs refl r) r.filed (both_true (same_eqb (home T f v) k to.0) r.on)
 
   pub split_carries : (test q to : ℕ) (y : Bool) → IsIn (Split test y q) items → Carrying (item_of_laid (Split test y q)) (Operation.BranchOn (branch_of T f Rs test) y to) []
   split_carries test q to y i =

@@ -10,7 +10,7 @@ use Rattle.vx_base.proofs.Pieces.{Hit}
 use Rattle.vx_flow.specs.declared.graph.Operand.{Operand}
 use Rattle.vx_flow.specs.declared.graph.Operand.TheVariants.{Held as HeldValue, Number as AsNumber, Stack}
 use Rattle.vx_flow.specs.declared.graph.Op.{Op}
-use Rattle.vx_flow.specs.declared.graph.Op.TheVariants.{Compute as Computes, Select as Selects, Place, Load as Loads, Store as Stores, More as Asks, Input as Takes, Text, Decimal, Across}
+use Rattle.vx_flow.specs.declared.graph.Op.TheVariants.{Compute as Computes, Select as Selects, Place, Load as Loads, Store as Stores, More as Asks, Input as Takes, Text, Decimal, Across, Base, PlaceIn}
 use Rattle.vx_flow.specs.Effects.{IsIn, is_unary, value_in, reads, writes}
 use Rattle.vx_flow.proofs.Members.{in_left, in_right}
 use Rattle.vx_isa.specs.declared.operation.GeneralRegister.{GeneralRegister}
@@ -19,7 +19,7 @@ use Rattle.vx_isa.specs.declared.operation.Register.TheVariants.{General, Branch
 use Rattle.vx_isa.specs.declared.operation.Source.{Source}
 use Rattle.vx_isa.specs.declared.operation.Source.TheVariants.{Held, Number}
 use Rattle.vx_isa.specs.declared.operation.Operation.{Operation}
-use Rattle.vx_isa.specs.declared.operation.Operation.TheVariants.{BranchOn}
+use Rattle.vx_isa.specs.declared.operation.Operation.TheVariants.{Compute, Move, BranchOn}
 use Rattle.vx_isa.specs.Numbers.{Numbers}
 use Rattle.vx_isa.specs.Operations.{is_zero, read_of, reads_of, list_of, destination_of, is_call, comes_from, latency_of_code, latency_of}
 use Rattle.vx_isa.specs.Paths.{Among}
@@ -27,9 +27,9 @@ use Rattle.vx_machine.specs.Items.{latency_of_op}
 use Rattle.vx_mixed.specs.declared.layout.Laid.{Laid}
 use Rattle.vx_mixed.specs.declared.layout.Laid.TheVariants.{Plain, Split}
 use Rattle.vx_mixed.specs.Settled.{read_there}
-use Rattle.vx_target.specs.Target.{Target, home, holds_branch, is_own, general_of, branch_of, register_of, slotted, stack_on, zero_on, source_of, access_base, computes, carried, carried_items, leads}
+use Rattle.vx_target.specs.Target.{Target, home, holds_branch, is_own, general_of, branch_of, register_of, slotted, stack_on, zero_on, bytes, source_of, access_base, computes, carried, carried_items, leads}
 use Rattle.vx_target.proofs.Forms.{to_branch}
-use Rattle.vx_target.proofs.Proper.{PlainOperand, PlaceIn, ProperOp, ProperItems}
+use Rattle.vx_target.proofs.Proper.{PlainOperand, IsPlacedIn, ProperOp, ProperItems}
 use Rattle.vx_tie.proofs.Early.{falls, Jumps, hit_of, hits}
 use Rattle.vx_tie.proofs.Heats.{HitIn, hit_either}
 
@@ -137,7 +137,7 @@ module _ (T : Target) (f : ℕ) (IsArray : ℕ → Type 0) where
   plain_general (AsNumber n) h y i = absurd i
   plain_general Stack h y i = absurd i
 
-  place_general : (a : ℕ) (x : Operand) → PlaceIn T f IsArray a x → AllGeneral (value_in x)
+  place_general : (a : ℕ) (x : Operand) → IsPlacedIn T f IsArray a x → AllGeneral (value_in x)
   place_general a (HeldValue v) h y i = ⊎_elim (λ e. ap (holds_branch T f) e ∙ h.1) (λ j. absurd j) i
   place_general a (AsNumber n) h y i = absurd i
   place_general a Stack h y i = absurd i
@@ -212,6 +212,15 @@ module _ (T : Target) (f : ℕ) (IsArray : ℕ → Type 0) where
     op_reads (Text n) k h r i = absurd i
     op_reads (Decimal x) k h r i = operand_reads x (plain_general x h) r i
     op_reads (Across v u) k h r i = ⊎_elim (λ e. of_value u (inl refl) (e ∙ general_name Rs u h.2)) (λ z. absurd z) i
+    op_reads (Base v a x) k h r i = by (is_own T f a) i
+      where
+        by : (own : Bool) → Among r (reads_of (if own then Compute k Add (General (general_of T f Ws v)) (Held (stack_on k)) (Number (bytes (T.array_at f a))) else Move k (general_of T f Ws v) (Number (bytes (T.array_at f a))))) → Reads [] r
+        by true j = ⊎_elim (λ e. of_pointer k e) (λ z. absurd z) j
+        by false j = absurd j
+    op_reads (PlaceIn v a u x) k h r i = ⊎_elim
+        (λ j. left_values (value_in x) (u ∷ []) r (operand_reads x (plain_general x h.index) r j))
+        (λ j. right_values (value_in x) (u ∷ []) r (⊎_elim (λ e. of_value u (inl refl) (e ∙ general_name Rs u h.base_general)) (λ z. absurd z) j))
+        (among_either r (read_of (source_of N x)) (General (N u) ∷ []) i)
 
     -- what it writes
 
@@ -235,6 +244,12 @@ module _ (T : Target) (f : ℕ) (IsArray : ℕ → Type 0) where
     op_writes (Text n) k h = refl
     op_writes (Decimal x) k h = refl
     op_writes (Across v u) k h = general_to v h.1
+    op_writes (Base v a x) k h = by (is_own T f a)
+      where
+        by : (own : Bool) → list_of (destination_of (if own then Compute k Add (General (general_of T f Ws v)) (Held (stack_on k)) (Number (bytes (T.array_at f a))) else Move k (general_of T f Ws v) (Number (bytes (T.array_at f a))))) ≡ register_of T f Ws v ∷ []
+        by true = general_to v h.general
+        by false = general_to v h.general
+    op_writes (PlaceIn v a u x) k h = general_to v h.general
 
     -- and how long that takes: a copy across comes from another cluster, what else is read stands on its own
 
@@ -263,6 +278,12 @@ module _ (T : Target) (f : ℕ) (IsArray : ℕ → Type 0) where
     op_latency (Text n) k h here away = refl
     op_latency (Decimal x) k h here away = refl
     op_latency (Across v u) k h here away = ap (λ t. if t then T.machine.latency_alu else T.machine.latency_copy) (ne_eqb (home T f u) k (away v u refl))
+    op_latency (Base v a x) k h here away = by (is_own T f a)
+      where
+        by : (own : Bool) → latency_of T.machine (if own then Compute k Add (General (general_of T f Ws v)) (Held (stack_on k)) (Number (bytes (T.array_at f a))) else Move k (general_of T f Ws v) (Number (bytes (T.array_at f a)))) ≡ T.machine.latency_alu
+        by true = refl
+        by false = refl
+    op_latency (PlaceIn v a u x) k h here away = refl
 
     -- the next word may follow, and splits alone lead elsewhere
 
@@ -277,6 +298,12 @@ module _ (T : Target) (f : ℕ) (IsArray : ℕ → Type 0) where
     op_falls (Text n) k ops = refl
     op_falls (Decimal x) k ops = refl
     op_falls (Across v u) k ops = refl
+    op_falls (Base v a x) k ops = by (is_own T f a)
+      where
+        by : (own : Bool) → falls ((if own then Compute k Add (General (general_of T f Ws v)) (Held (stack_on k)) (Number (bytes (T.array_at f a))) else Move k (general_of T f Ws v) (Number (bytes (T.array_at f a)))) ∷ ops) ≡ falls ops
+        by true = refl
+        by false = refl
+    op_falls (PlaceIn v a u x) k ops = refl
 
     op_jumps : (op : Op) (k : ℕ) (ops : List Operation) (q : ℕ) → Jumps (carried T f Rs Ws k op ∷ ops) q → Jumps ops q
     op_jumps (Computes code v a b) k ops q j = (computing T.machine k code (register_of T f Ws v) (general_of T f Ws v) (source_of N a) (source_of N b)).jumps_on ops q j
@@ -289,6 +316,12 @@ module _ (T : Target) (f : ℕ) (IsArray : ℕ → Type 0) where
     op_jumps (Text n) k ops q j = j
     op_jumps (Decimal x) k ops q j = j
     op_jumps (Across v u) k ops q j = j
+    op_jumps (Base v a x) k ops q j = by (is_own T f a) j
+      where
+        by : (own : Bool) → Jumps ((if own then Compute k Add (General (general_of T f Ws v)) (Held (stack_on k)) (Number (bytes (T.array_at f a))) else Move k (general_of T f Ws v) (Number (bytes (T.array_at f a)))) ∷ ops) q → Jumps ops q
+        by true l = l
+        by false l = l
+    op_jumps (PlaceIn v a u x) k ops q j = j
 
     module _ (p : ℕ) where
       pub items_fall : (xs : List Laid) → falls (carried_items T f p Rs Ws xs) ≡ true

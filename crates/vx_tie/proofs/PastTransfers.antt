@@ -1,13 +1,13 @@
 -- Over values, transfers one after the other lead to the place past them: steps that change nothing but the place.
-use Rattle.std.proofs.Common.{◌≡◌, ◌+◌, ℕ, suc, Some, List, [], length, refl, ap, ◌∙◌}
+use Rattle.std.proofs.Common.{◌≡◌, ◌+◌, ℕ, suc, Some, List, length, refl, ap, ◌∙◌}
 use Rattle.std.specs.Prelude.{slice_get}
 use Rattle.vx_base.specs.Outcome.{On}
 use Rattle.vx_base.proofs.Runs.{Reach, reach_on, reach_one, run_reach}
 use Rattle.vx_flow.specs.declared.graph.Flow.{Flow}
-use Rattle.vx_flow.specs.Meaning.{Active, setting_with, setting_of, body_hop, after_hop, next, program_run}
+use Rattle.vx_flow.specs.Meaning.{Active, setting_with, body_hop, after_hop, next, program_run}
 use Rattle.vx_mixed.specs.declared.layout.VirtualWord.TheVariants.{Transfer}
 use Rattle.vx_mixed.specs.declared.layout.VWords.{VWords}
-use Rattle.vx_layout.specs.Laid.{laid_hop, some_word_hop, laid_body, laid_program}
+use Rattle.vx_layout.specs.Laid.{some_word_hop, laid_body, laid_program}
 use Rattle.vx_regs.specs.Intervals.{IsLive, beyond}
 use Rattle.vx_target.specs.Target.{Target, most_transfers, past}
 use Rattle.vx_target.specs.Tied.{IsFunction}
@@ -20,7 +20,7 @@ steps_on flow ls k r s reach n = run_reach (next (laid_program flow ls)) (λ q. 
 pub one_on : (flow : Flow) (ls : List VWords) (r s : Active) → next (laid_program flow ls) r ≡ On s → (n : ℕ) → program_run (laid_program flow ls) (1 + n) r ≡ program_run (laid_program flow ls) n s
 one_on flow ls r s step n = steps_on flow ls 1 r s (reach_one (next (laid_program flow ls)) r s step) n
 
-module _ (T : Target) (flow : Flow) (ls : List VWords) (r : Active) (is : IsFunction T flow ls r.function) (passed : r.passed ≡ []) where
+module _ (T : Target) (flow : Flow) (ls : List VWords) (r : Active) (is : IsFunction T flow ls r.function) where
   abbrev At : ℕ → Active
   At d = record r { block = suc d }
 
@@ -33,7 +33,7 @@ module _ (T : Target) (flow : Flow) (ls : List VWords) (r : Active) (is : IsFunc
   transferred : (q d : ℕ) → slice_get (T.layout r.function).words q ≡ Some (Transfer d) → next (laid_program flow ls) (At q) ≡ On (At d)
   transferred q d e = ap (after_hop (laid_program flow ls) (At q))
       (ap (body_hop (laid_program flow ls) (At q)) (ap (λ g. laid_body (length flow.globals) g (slice_get ls r.function)) is.graph ∙ ap (λ l. laid_body (length flow.globals) (Some (T.graph r.function)) l) is.layout)
-      ∙ ap (λ z. laid_hop (setting_with (laid_program flow ls) z r.base) (T.layout r.function) (suc q) r.state) passed ∙ ap (λ x. some_word_hop (setting_of (laid_program flow ls) r.base) q x r.state) e)
+      ∙ ap (λ x. some_word_hop (setting_with (laid_program flow ls) r.passed r.base) q x r.state) e)
 
   led_on : (q d to : ℕ) → slice_get (T.layout r.function).words d ≡ Some (Transfer to) → Led q d → Led q to
   led_on q d to e h = record {

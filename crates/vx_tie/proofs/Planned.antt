@@ -9,8 +9,8 @@ use Rattle.vx_flow.specs.declared.graph.Bank.{Bank}
 use Rattle.vx_flow.specs.declared.graph.Flow.{Flow}
 use Rattle.vx_flow.specs.declared.graph.Op.{Op}
 use Rattle.vx_flow.specs.Effects.{State as VState, Setting, IsIn}
-use Rattle.vx_flow.specs.Meaning.{Hop, Active, setting_with, setting_of, and_then, body_hop, hop, after_hop, next, program_run}
-use Rattle.vx_flow.specs.Sound.{Sound, SoundFlow, is_sound_flow}
+use Rattle.vx_flow.specs.Meaning.{Hop, Active, setting_with, and_then, body_hop, hop, after_hop, next, program_run}
+use Rattle.vx_flow.specs.Sound.{Sound, SoundFlow, is_given, base_of, is_sound_flow}
 use Rattle.vx_flow.proofs.SoundFlowLaw.{told}
 use Rattle.vx_flow.proofs.SoundLists.{all_in}
 use Rattle.vx_isa.specs.declared.program.WordProgram.{WordProgram}
@@ -27,7 +27,7 @@ use Rattle.vx_layout.specs.Laid.{laid_effect, laid_next, moves_to, laid_hop, som
 use Rattle.vx_mixed.specs.LaidSettled.{LeadsTo, laid_reads, laid_writes, bank_in, Plans}
 use Rattle.vx_regs.specs.Intervals.{IsLive, here, beyond, IsBusy, is_live}
 use Rattle.vx_target.specs.Target.{Target, kept, is_slotted, register_of, past, memory_words, plan_words}
-use Rattle.vx_target.specs.Tied.{Tied, AtWord, Below, Shows, Stacked, IsStack, HasCell, Seated, stack_from, waiting_above, seat, holds, word_at}
+use Rattle.vx_target.specs.Tied.{Tied, AtWord, Below, Seating, Shows, Stacked, IsStack, HasCell, Seated, active_at, here_of, stack_from, waiting_above, seat, holds, word_at}
 use Rattle.vx_target.specs.Carried.{Carries, IsFunctionOf, NeedsSlot, is_spilled, item_of_laid}
 use Rattle.vx_target.specs.Seats.{Seats, is_link, is_slot}
 use Rattle.vx_tie.specs.Planned.{CarriesOn, PlannedLaw}
@@ -69,7 +69,7 @@ module _ (T : Target) (flow : Flow) (ls : List VWords) (w : WordProgram) (sound 
   Globals = length flow.globals
 
   abbrev TheSetting : Setting
-  TheSetting = setting_of (laid_program flow ls) r.base
+  TheSetting = setting_with (laid_program flow ls) r.passed r.base
 
   abbrev IsArray : ℕ → Type 0
   IsArray a = (array : Array) × (slice_get (T.graph F).arrays a ≡ Some array)
@@ -82,7 +82,11 @@ module _ (T : Target) (flow : Flow) (ls : List VWords) (w : WordProgram) (sound 
   TheSeats k = seat T flow.globals TheStack k
 
   abbrev Latest : Stacked
-  Latest = record { function = F; frame = Sp; base = r.base }
+  Latest = active_at Sp r
+
+  -- what the function sees
+  abbrev Here : Seating
+  Here = here_of T flow.globals Sp r
 
   high : T.globals ≤ Sp
   high = above_globals T flow carries.some_frame carries.globals sound Sp (length r.waiting) tied.deep
@@ -105,8 +109,8 @@ module _ (T : Target) (flow : Flow) (ls : List VWords) (w : WordProgram) (sound 
   plans : Plans (T.layout F) p items
   plans = (region, word, plan)
 
-  at_word : AtWord T Sp p r u
-  at_word = ⊎_elim (λ a. absurd (let z : suc p ≡ 0 = sym block ∙ a.block in omega arith)) (λ a. let z : suc a.0 ≡ suc p = sym a.1.block ∙ block in let q : a.0 ≡ p = omega arith in subst (λ x. AtWord T Sp x r u) q a.1) tied.at
+  at_word : AtWord T flow.globals Sp p r u
+  at_word = ⊎_elim (λ a. absurd (let z : suc p ≡ 0 = sym block ∙ a.block in omega arith)) (λ a. let z : suc a.0 ≡ suc p = sym a.1.block ∙ block in let q : a.0 ≡ p = omega arith in subst (λ x. AtWord T flow.globals Sp x r u) q a.1) tied.at
 
   small : 4 * memory_words T < 2 ^ 32
   small = let c = carries.small in omega arith
@@ -172,7 +176,15 @@ module _ (T : Target) (flow : Flow) (ls : List VWords) (w : WordProgram) (sound 
     not_stack = λ k. not_general T F of.mapped names v k 1 (banks v i) (omega arith);
   }
 
-  planning : Planning T.machine w fit T F Sp p carries.memory small some TheSetting TheSeats IsArray items S u
+  -- what the function sees ends with all rows
+  rows_are : Here.rows ≡ length S.arrays
+  rows_are = tied.stacked.2
+
+  no_base : (base : Option ℕ) → is_given base ≡ false → base ≡ None
+  no_base None e = refl
+  no_base (Some v) e = absurd (let z : true ≡ false = e in cc)
+
+  planning : Planning T.machine w fit T F Here p carries.memory small some TheSetting IsArray items S u
   planning = record {
     calm = tied.calm;
     stands = subst (λ q. Stands w.words q (plan_words T F p items)) (sym at_word.place) (word_stands T flow.main (length flow.functions) w.words carries.placed F p (Planned region word items) below plan);
@@ -185,7 +197,11 @@ module _ (T : Target) (flow : Flow) (ls : List VWords) (w : WordProgram) (sound 
     texts = carries.texts;
     inside = the_table.inside;
     apart = the_table.apart;
-    begins = λ a is. the_table.begins Latest a is.0 (inl refl) is.1;
+    begins = λ a is bare. the_table.begins Latest a is.0 (inl refl) is.1 (no_base is.0.base (sym (ap (λ o. is_given (base_of o)) is.1) ∙ bare));
+    spots = λ a. refl;
+    there = λ a is. (let l = the_table.stands Latest a is.0 (inl refl) is.1 in let q = rows_are in omega arith);
+    low = λ k lt. the_table.low k (let q = rows_are in omega arith);
+    less = (let c = carries.small in omega arith);
     start = the_table.known;
     input = tied.input;
     out = tied.out;
@@ -201,7 +217,7 @@ module _ (T : Target) (flow : Flow) (ls : List VWords) (w : WordProgram) (sound 
 
   -- a value that is live behind the word and not written by it
 
-  untouched : (v : ℕ) → IsLive (T.layout F) p v → (IsIn v Ws → ⊥) → Untouched T.machine w fit T F Sp p carries.memory small some TheSetting TheSeats IsArray items S u v
+  untouched : (v : ℕ) → IsLive (T.layout F) p v → (IsIn v Ws → ⊥) → Untouched T.machine w fit T F Here p carries.memory small some TheSetting IsArray items S u v
   untouched v live no_ = record {
     answer_not = λ e. not_general T F of.mapped (v ∷ []) v 0 2 bank (omega arith);
     reads_not = λ y e i. (let k = slotted_from T F y Rs i in apart_mixed T F of.mapped (v ∷ []) Rs v y bank enough_reads k.0 e k.1);
@@ -226,7 +242,7 @@ module _ (T : Target) (flow : Flow) (ls : List VWords) (w : WordProgram) (sound 
   body_is = ap (λ g. laid_body Globals g (slice_get ls F)) tied.is.graph ∙ ap (λ l. laid_body Globals (Some (T.graph F)) l) tied.is.layout
 
   hop_is : hop (laid_program flow ls) r ≡ and_then (laid_effect TheSetting S items S) (moves_to p (laid_next S (suc p) items))
-  hop_is = ap (body_hop (laid_program flow ls) r) body_is ∙ ap (λ z. laid_hop (setting_with (laid_program flow ls) z r.base) (T.layout F) r.block S) tied.passed ∙ ap (λ b. laid_hop TheSetting (T.layout F) b S) block ∙ ap (λ x. some_word_hop TheSetting p x S) plan
+  hop_is = ap (body_hop (laid_program flow ls) r) body_is ∙ ap (λ b. laid_hop TheSetting (T.layout F) b S) block ∙ ap (λ x. some_word_hop TheSetting p x S) plan
 
   next_is : (h : Hop) → and_then (laid_effect TheSetting S items S) (moves_to p (laid_next S (suc p) items)) ≡ h → next (laid_program flow ls) r ≡ after_hop (laid_program flow ls) r h
   next_is h e = ap (after_hop (laid_program flow ls) r) (hop_is ∙ e)
@@ -241,17 +257,17 @@ module _ (T : Target) (flow : Flow) (ls : List VWords) (w : WordProgram) (sound 
     steps : next (laid_program flow ls) r ≡ On After
     steps = next_is (Hop.Arrives (suc p) (suc q) t) (ap (λ x. and_then x (moves_to p (laid_next S (suc p) items))) done ∙ ap (λ x. moves_to p x t) took)
 
-    arrived : Arrived T.machine w fit T F Sp p carries.memory small some TheSetting TheSeats IsArray items S u t q
-    arrived = plan_run T.machine w fit T F Sp p carries.memory small some TheSetting TheSeats IsArray items S u planning t done q took
+    arrived : Arrived T.machine w fit T F Here p carries.memory small some TheSetting IsArray items S u t q
+    arrived = plan_run T.machine w fit T F Here p carries.memory small some TheSetting IsArray items S u planning t done q took
 
     abbrev To : State
     To = arrived.to
 
-    the_run : Ran T w F Sp TheSetting TheSeats IsArray Rs Ws S (First T.machine w fit T F Sp p carries.memory small some TheSetting TheSeats IsArray items S u planning) p items S t
-    the_run = ran T.machine w fit T F Sp p carries.memory small some TheSetting TheSeats IsArray items S u planning t done
+    the_run : Ran T w F Here TheSetting IsArray Rs Ws S (First T.machine w fit T F Here p carries.memory small some TheSetting IsArray items S u planning) p items S t
+    the_run = ran T.machine w fit T F Here p carries.memory small some TheSetting IsArray items S u planning t done
 
     shape : SameShape S.arrays t.arrays
-    shape = shape_items T w F Sp TheSetting TheSeats IsArray Rs Ws S (First T.machine w fit T F Sp p carries.memory small some TheSetting TheSeats IsArray items S u planning) p items S t the_run
+    shape = shape_items T w F Here TheSetting IsArray Rs Ws S (First T.machine w fit T F Here p carries.memory small some TheSetting IsArray items S u planning) p items S t the_run
 
     leads_on : LeadsTo p (Planned region word items) q
     leads_on = next_leads S (suc p) items items (λ x i. i) took
@@ -268,12 +284,12 @@ module _ (T : Target) (flow : Flow) (ls : List VWords) (w : WordProgram) (sound 
 
     -- values
 
-    values : (v : ℕ) (n : ℤ) → IsLive (T.layout F) q v → t.values v ≡ Some n → Shows T Sp F v n (holds T To Sp F v)
+    values : (v : ℕ) (n : ℤ) → IsLive (T.layout F) q v → t.values v ≡ Some n → Shows T Here F v n (holds T To Sp F v)
     values v n live e = ⊎_elim
         (λ i. arrived.written v n i e)
         (λ no_.
         let before : IsLive (T.layout F) p v = beyond plan no_ leads_on live in
-        let same = same_items T w F Sp TheSetting TheSeats IsArray Rs Ws S (First T.machine w fit T F Sp p carries.memory small some TheSetting TheSeats IsArray items S u planning) p v items S t the_run no_ in
+        let same = same_items T w F Here TheSetting IsArray Rs Ws S (First T.machine w fit T F Here p carries.memory small some TheSetting IsArray items S u planning) p v items S t the_run no_ in
         arrived.kept_value v n (untouched v before no_) (at_word.values v n before (sym same ∙ e)))
         (in_or_not v Ws)
 
@@ -294,10 +310,10 @@ module _ (T : Target) (flow : Flow) (ls : List VWords) (w : WordProgram) (sound 
     waiting : Below T flow ls To.memory Sp r.waiting
     waiting = below_keep T flow ls (saved_of T flow ls w carries) r.waiting u.memory To.memory Sp
         (λ x word i framed. elsewhere word (λ k j has. the_table.free x word k j (inr i) framed has)
-        (λ v n e. let z = of.framed.slot_to v n in let y = framed_from T flow ls (waiting_above T Sp r.waiting) (Sp + T.frame) r.base tied.stacked.3 x word i framed in omega arith))
+        (λ v n e. let z = of.framed.slot_to v n in let y = framed_from T flow ls (waiting_above T Sp r.waiting) (Sp + T.frame) r.base tied.stacked.4 x word i framed in omega arith))
         tied.below
 
-    tied_at : (d : ℕ) → To.place ≡ T.starts F d → ((v : ℕ) (n : ℤ) → IsLive (T.layout F) d v → t.values v ≡ Some n → Shows T Sp F v n (holds T To Sp F v)) → NeverFails (λ n. program_run (laid_program flow ls) n (record r { block = suc d; state = t })) → Tied T flow ls (record r { block = suc d; state = t }) To
+    tied_at : (d : ℕ) → To.place ≡ T.starts F d → ((v : ℕ) (n : ℤ) → IsLive (T.layout F) d v → t.values v ≡ Some n → Shows T Here F v n (holds T To Sp F v)) → NeverFails (λ n. program_run (laid_program flow ls) n (record r { block = suc d; state = t })) → Tied T flow ls (record r { block = suc d; state = t }) To
     tied_at d place shown safe = record {
       sp = Sp;
       is = tied.is;
@@ -305,7 +321,6 @@ module _ (T : Target) (flow : Flow) (ls : List VWords) (w : WordProgram) (sound 
       deep = tied.deep;
       stack = arrived.stack;
       at = inr (d, record { block = refl; place = place; values = shown; link = link_stays T u To Sp F link arrived.link ∙ at_word.link });
-      passed = tied.passed;
       stacked = subst (λ c. IsStack T flow ls Sp c TheStack) (sym shape.count) tied.stacked;
       seated = seated;
       below = waiting;
@@ -321,7 +336,7 @@ module _ (T : Target) (flow : Flow) (ls : List VWords) (w : WordProgram) (sound 
     Behind d = record r { block = suc d; state = t }
 
     -- a split leads past transfers, which are more steps over values
-    carried_to : (d : ℕ) → Led T flow ls After tied.is tied.passed q d → To.place ≡ T.starts F d → CarriesOn T flow ls w r u
+    carried_to : (d : ℕ) → Led T flow ls After tied.is q d → To.place ≡ T.starts F d → CarriesOn T flow ls w r u
     carried_to d led place =
         let reach : Reach (next (laid_program flow ls)) (suc led.steps) r (Behind d) = (After, steps, led.over_values) in
         record {
@@ -337,7 +352,7 @@ module _ (T : Target) (flow : Flow) (ls : List VWords) (w : WordProgram) (sound 
     carried : CarriesOn T flow ls w r u
     carried = ⊎_elim
         (λ place. carried_to q (record { steps = 0; over_values = refl; live = λ v k. k }) place)
-        (λ place. carried_to (past T F q) (led_past T flow ls After tied.is tied.passed q) place)
+        (λ place. carried_to (past T F q) (led_past T flow ls After tied.is q) place)
         arrived.place
 
   took_some : (t : VState) → laid_effect TheSetting S items S ≡ Some t → (q : Option ℕ) → laid_next S (suc p) items ≡ q → CarriesOn T flow ls w r u

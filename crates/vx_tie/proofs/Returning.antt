@@ -2,7 +2,7 @@
 use Rattle.std.proofs.Common.{◌≡◌, ◌≢◌, ◌<◌, ◌≤◌, ◌⊎◌, inl, inr, ⊎_elim, ◌+◌, ◌-◌, ◌*◌, ◌^◌, ℕ, suc, ℤ, pos, Bool, true, false, Option, Some, None, List, [], ◌∷◌, ◌++◌, length, length-append, take, refl, sym, ap, ◌∙◌, subst, arith}
 use Rattle.std.specs.Prelude.{slice_get, if◌then◌else◌}
 use Rattle.std.specs.List.{flat_map}
-use Rattle.std.proofs.lemmas.Bool.{false_from_ne_true, ne_eqb}
+use Rattle.std.proofs.lemmas.Bool.{ne_eqb}
 use Rattle.std.proofs.lemmas.List.{append-nil}
 use Rattle.vx_base.specs.Arithmetic.{wrap, sum_of}
 use Rattle.vx_base.specs.declared.arithmetic.Code.TheVariants.{Add}
@@ -16,7 +16,7 @@ use Rattle.vx_flow.specs.declared.graph.Flow.{Flow}
 use Rattle.vx_flow.specs.declared.graph.Operand.{Operand}
 use Rattle.vx_flow.specs.Effects.{Content, State as VState, IsIn, held, value_in}
 use Rattle.vx_flow.specs.Meaning.{Active, Frame, Hop, Leaves, returned, leaves, with_result, after_hop, next}
-use Rattle.vx_flow.specs.Sound.{Sound, SoundFlow, IsPlace, results_of_exit, is_sound_flow}
+use Rattle.vx_flow.specs.Sound.{Sound, SoundFlow, IsPlace, IsBase, results_of_exit, is_sound_flow}
 use Rattle.vx_flow.proofs.Members.{in_right}
 use Rattle.vx_flow.proofs.SoundFlowLaw.{told}
 use Rattle.vx_isa.specs.declared.operation.Register.TheVariants.{General}
@@ -34,7 +34,7 @@ use Rattle.vx_mixed.specs.LaidSettled.{bank_in}
 use Rattle.vx_layout.specs.Origins.{CallsAs}
 use Rattle.vx_regs.specs.Intervals.{IsLive, IsBusy, is_live, is_named, result_of}
 use Rattle.vx_target.specs.Target.{Target, answer, kept, is_slotted, is_branch, holds_branch, stack_on, register_of, one, bytes, move_stack, result_words, load_slots, wanted, reload_words, call_words, back_words, set_stack, halt_place, memory_words}
-use Rattle.vx_target.specs.Tied.{Tied, Shows, Stacked, IsStack, Seated, Waits, Below, Deep, IsResult, waiting_above, seat, Itself, IsShown, back_place, is_place, kind_by, kind_of, holds, word_at}
+use Rattle.vx_target.specs.Tied.{Tied, Seating, Shows, Stacked, IsStack, Seated, Waits, Below, Deep, IsResult, active_at, waiting_at, there_of, waiting_above, seat, Itself, IsShown, back_place, kind_of, holds, word_at}
 use Rattle.vx_target.specs.Carried.{Carries, IsFunctionOf, NeedsSlot, is_spilled, is_saved, Survives}
 use Rattle.vx_tie.specs.Planned.{CarriesOn, EndsAlike}
 use Rattle.vx_tie.proofs.PastTransfers.{one_on}
@@ -45,7 +45,7 @@ use Rattle.vx_target.specs.Seats.{Seats, is_slot}
 use Rattle.vx_target.proofs.Frames.{get_below, get_in, frame_room, above_globals, link_in_frame, below_keep}
 use Rattle.vx_target.proofs.SeatRoom.{table, framed_from}
 use Rattle.vx_target.proofs.SeatSteps.{seated_on, returned_stack, returned_seated, frames_of, saved_of}
-use Rattle.vx_target.proofs.FromGraph.{branch_plain, place_made, whole_bank, has_whole, whole_is}
+use Rattle.vx_target.proofs.FromGraph.{branch_plain, plain_kind, whole_bank, has_whole, whole_is}
 use Rattle.vx_tie.proofs.Leaving.{Left, hop_to, left_run}
 use Rattle.vx_target.proofs.Live.{live_bank}
 use Rattle.vx_tie.proofs.Moves.{Moved, move_run, up}
@@ -102,10 +102,10 @@ module _ (T : Target) (flow : Flow) (ls : List VWords) (w : WordProgram) (sound 
   -- the activations: the one that returns, and the others
 
   abbrev Returning_one : Stacked
-  Returning_one = record { function = r.function; frame = tied.sp; base = r.base }
+  Returning_one = active_at tied.sp r
 
   abbrev Caller : Stacked
-  Caller = record { function = F; frame = Sp; base = fr.base }
+  Caller = waiting_at Sp fr
 
   abbrev Activations : List Stacked
   Activations = Caller ∷ waiting_above T Sp frs
@@ -115,6 +115,10 @@ module _ (T : Target) (flow : Flow) (ls : List VWords) (w : WordProgram) (sound 
 
   was_seated : Seated T flow.globals (Returning_one ∷ Activations) S.arrays u.memory
   was_seated = subst (λ fs. Seated T flow.globals (Returning_one ∷ waiting_above T tied.sp fs) S.arrays u.memory) waiting tied.seated
+
+  -- what the caller sees, now as before
+  abbrev There : Seating
+  There = there_of T flow.globals Sp fr frs
 
   abbrev P : ℕ
   P = waits.caller
@@ -201,7 +205,9 @@ module _ (T : Target) (flow : Flow) (ls : List VWords) (w : WordProgram) (sound 
   result_plain : (v : ℕ) → IsResult fr.result v → (kind_of T F v ≡ Itself) × (holds_branch T F v ≡ false)
   result_plain v i =
       let whole = whole_is T F Any graph_sound of.mapped.code (λ a lt. tt) v GeneralBank (result_general v i) in (
-        ap kind_by (false_from_ne_true (is_place T F v) (λ e. let m = place_made T F Any graph_sound of.mapped.code v e in graph_sound.place_exit v m.0 Exiting (subst (λ y. IsPlace (T.graph F) y m.0) whole m.1) site.has (inr (among v i)))),
+        plain_kind T F Any graph_sound of.mapped.code v
+            (λ a k. graph_sound.place_exit v a Exiting (subst (λ y. IsPlace (T.graph F) y a) whole k) site.has (inr (among v i)))
+            (λ k. graph_sound.base_result v Exiting (subst (IsBase (T.graph F)) whole k) site.has (among v i)),
         ap is_branch (in_general_bank v i),
       )
 
@@ -341,25 +347,25 @@ module _ (T : Target) (flow : Flow) (ls : List VWords) (w : WordProgram) (sound 
             (λ y j e. apart_registers T F of.mapped (suc P) (v ∷ []) Saved v y (result_bank v i) (saved_bank y j) (is_live lives) (is_live (survives y j).live) (λ q. (survives y j).other (subst (IsResult fr.result) q i)) h (in_a_register y j) e)
             (not_general T F of.mapped (v ∷ []) v 0 2 (result_bank v i) (omega arith)) ∙ k
 
-    shows_result : (v : ℕ) (m : ℤ) → IsLive (T.layout F) (suc P) v → IsResult fr.result v → n ≡ m → Shows T Sp F v m (holds T C Sp F v)
+    shows_result : (v : ℕ) (m : ℤ) → IsLive (T.layout F) (suc P) v → IsResult fr.result v → n ≡ m → Shows T There F v m (holds T C Sp F v)
     shows_result v m lives i e = record {
       answer = λ b. absurd (let z : true ≡ false = sym b ∙ (result_plain v i).1 in cc);
-      is = subst (λ k. IsShown Sp k m (holds T C Sp F v)) (sym (result_plain v i).0) (result_value v lives i ∙ e);
+      is = subst (λ k. IsShown (T.graph F).arrays There k m (holds T C Sp F v)) (sym (result_plain v i).0) (result_value v lives i ∙ e);
     }
 
-    shows_other : (v : ℕ) (m : ℤ) → IsLive (T.layout F) (suc P) v → (IsResult fr.result v → ⊥) → fr.values v ≡ Some m → Shows T Sp F v m (holds T C Sp F v)
+    shows_other : (v : ℕ) (m : ℤ) → IsLive (T.layout F) (suc P) v → (IsResult fr.result v → ⊥) → fr.values v ≡ Some m → Shows T There F v m (holds T C Sp F v)
     shows_other v m lives no_ e = by (is_slotted (kept T F v)) refl (waits.values v m lives no_ e)
       where
-        by : (b : Bool) → is_slotted (kept T F v) ≡ b → Shows T Sp F v m (word_at u.memory (Sp + T.slot F v)) → Shows T Sp F v m (if b then word_at C.memory (Sp + T.slot F v) else register C (register_of T F (v ∷ []) v))
-        by true h k = subst (λ y. Shows T Sp F v m y) (sym (memory_c (Sp + T.slot F v) (other_slot v (is_spilled (suc P) (is_live lives) h) no_))) k
+        by : (b : Bool) → is_slotted (kept T F v) ≡ b → Shows T There F v m (word_at u.memory (Sp + T.slot F v)) → Shows T There F v m (if b then word_at C.memory (Sp + T.slot F v) else register C (register_of T F (v ∷ []) v))
+        by true h k = subst (λ y. Shows T There F v m y) (sym (memory_c (Sp + T.slot F v) (other_slot v (is_spilled (suc P) (is_live lives) h) no_))) k
         by false h k =
             let number = in_register (kept T F v) h in
             let there : IsIn v Saved = of.saved.saves P waits.callee v waits.arguments fr.result waits.called (record { live = lives; other = no_; number = number.0; register = number.1 }) in
-            let old : Shows T Sp F v m (word_at B.memory (Sp + T.slot F v)) = subst (λ y. Shows T Sp F v m y) (sym (memory_b (Sp + T.slot F v) (other_slot v (saved_needs v there) no_))) k in
+            let old : Shows T There F v m (word_at B.memory (Sp + T.slot F v)) = subst (λ y. Shows T There F v m y) (sym (memory_b (Sp + T.slot F v) (other_slot v (saved_needs v there) no_))) k in
             let name : register C (register_of T F (v ∷ []) v) ≡ as_read (holds_branch T F v) (word_at B.memory (Sp + T.slot F v)) = ap (register C) (own_name T F v (v ∷ []) Saved h) ∙ reloaded.at v there in
-            subst (λ y. Shows T Sp F v m y) (sym name) (read_shows T Sp F v m (word_at B.memory (Sp + T.slot F v)) (branch_plain T F Any graph_sound of.mapped.code v) old)
+            subst (λ y. Shows T There F v m y) (sym name) (read_shows T There F v m (word_at B.memory (Sp + T.slot F v)) (branch_plain T F Any graph_sound of.mapped.code v) old)
 
-    values : (v : ℕ) (m : ℤ) → IsLive (T.layout F) (suc P) v → with_result fr.values fr.result n v ≡ Some m → Shows T Sp F v m (holds T C Sp F v)
+    values : (v : ℕ) (m : ℤ) → IsLive (T.layout F) (suc P) v → with_result fr.values fr.result n v ≡ Some m → Shows T There F v m (holds T C Sp F v)
     values v m lives e = ⊎_elim
         (λ i. shows_result v m lives i (with_is fr.result v n m fr.values i e))
         (λ no_. shows_other v m lives no_ (sym (with_other fr.result v n fr.values no_) ∙ e))
@@ -386,7 +392,7 @@ module _ (T : Target) (flow : Flow) (ls : List VWords) (w : WordProgram) (sound 
 
     rest_below : Below T flow ls C.memory Sp frs
     rest_below = below_keep T flow ls (saved_of T flow ls w carries) frs u.memory C.memory Sp
-        (λ x word i framed. let z = framed_from T flow ls (waiting_above T Sp frs) (Sp + T.frame) fr.base was_stacked.3.3 x word i framed in
+        (λ x word i framed. let z = framed_from T flow ls (waiting_above T Sp frs) (Sp + T.frame) fr.base was_stacked.4.4 x word i framed in
         memory_c word (λ v j h e. let a = of.framed.slot_to v (result_needs v j h) in omega arith))
         both.1
 
@@ -413,7 +419,6 @@ module _ (T : Target) (flow : Flow) (ls : List VWords) (w : WordProgram) (sound 
         deep = deep_back;
         stack = stack_c;
         at = inr (suc P, record { block = waits.next; place = place_c; values = values; link = link_in_frame T C Sp F P waits.callee waits.arguments fr.result waits.called ∙ link_c });
-        passed = waits.passed;
         stacked = stacked;
         seated = seated;
         below = rest_below;

@@ -10,7 +10,7 @@ use Rattle.vx_base.proofs.Runs.{Reach, run_reach, safe_after, safe_end, reach_on
 use Rattle.vx_flow.specs.declared.graph.Bank.{Bank}
 use Rattle.vx_flow.specs.declared.graph.Flow.{Flow}
 use Rattle.vx_flow.specs.Effects.{Content, State as VState, Setting, IsIn}
-use Rattle.vx_flow.specs.Meaning.{Hop, Active, setting_with, setting_of, by_test, body_hop, hop, after_hop, next}
+use Rattle.vx_flow.specs.Meaning.{Hop, Active, setting_with, by_test, body_hop, hop, after_hop, next}
 use Rattle.vx_flow.specs.Sound.{Sound, SoundFlow, is_sound_flow}
 use Rattle.vx_flow.proofs.SoundFlowLaw.{told}
 use Rattle.vx_isa.specs.declared.operation.Register.TheVariants.{General, Branch, Link}
@@ -25,7 +25,7 @@ use Rattle.vx_layout.specs.Laid.{moves, word_hop, laid_hop, some_word_hop, laid_
 use Rattle.vx_mixed.specs.LaidSettled.{LeadsTo, bank_in}
 use Rattle.vx_regs.specs.Intervals.{IsLive, here, beyond, is_live, word_writes}
 use Rattle.vx_target.specs.Target.{Target, answer, stack_on, kept, is_slotted, holds_branch, same_file, scratch, general_of, branch_of, register_of, slotted, before, past, follows, turns, one, waits, pause, word_words, memory_words}
-use Rattle.vx_target.specs.Tied.{Tied, AtWord, Below, Seated, stack_from, Shows, Itself, holds, kind_of, word_at}
+use Rattle.vx_target.specs.Tied.{Tied, AtWord, Below, Seated, Seating, here_of, stack_from, Shows, Itself, holds, kind_of, word_at}
 use Rattle.vx_target.specs.Carried.{Carries, IsFunctionOf, IsMapped, is_spilled}
 use Rattle.vx_tie.specs.Planned.{CarriesOn, EndsAlike, FallsNext, Simple, SimpleLaw}
 use Rattle.vx_tie.proofs.PastTransfers.{Led, led_past, steps_on}
@@ -50,7 +50,7 @@ module _ (T : Target) (flow : Flow) (ls : List VWords) (w : WordProgram) (sound 
   S = r.state
 
   abbrev TheSetting : Setting
-  TheSetting = setting_of (laid_program flow ls) r.base
+  TheSetting = setting_with (laid_program flow ls) r.passed r.base
 
   below : F < length flow.functions
   below = get_below flow.functions F (T.graph F) tied.is.graph
@@ -58,8 +58,11 @@ module _ (T : Target) (flow : Flow) (ls : List VWords) (w : WordProgram) (sound 
   of : IsFunctionOf T flow ls F
   of = carries.functions F below
 
-  at_word : AtWord T tied.sp p r u
-  at_word = ⊎_elim (λ a. absurd (let z : suc p ≡ 0 = sym block ∙ a.block in omega arith)) (λ a. let z : suc a.0 ≡ suc p = sym a.1.block ∙ block in let q : a.0 ≡ p = omega arith in subst (λ x. AtWord T tied.sp x r u) q a.1) tied.at
+  abbrev Here : Seating
+  Here = here_of T flow.globals tied.sp r
+
+  at_word : AtWord T flow.globals tied.sp p r u
+  at_word = ⊎_elim (λ a. absurd (let z : suc p ≡ 0 = sym block ∙ a.block in omega arith)) (λ a. let z : suc a.0 ≡ suc p = sym a.1.block ∙ block in let q : a.0 ≡ p = omega arith in subst (λ x. AtWord T flow.globals tied.sp x r u) q a.1) tied.at
 
   stands : Stands w.words u.place (word_words T F p word)
   stands = subst (λ q. Stands w.words q (word_words T F p word)) (sym at_word.place) (word_stands T flow.main (length flow.functions) w.words carries.placed F p word below plan)
@@ -70,7 +73,6 @@ module _ (T : Target) (flow : Flow) (ls : List VWords) (w : WordProgram) (sound 
   hop_is : hop (laid_program flow ls) r ≡ word_hop TheSetting p word S
   hop_is =
       ap (body_hop (laid_program flow ls) r) (ap (λ g. laid_body (length flow.globals) g (slice_get ls F)) tied.is.graph ∙ ap (λ l. laid_body (length flow.globals) (Some (T.graph F)) l) tied.is.layout)
-      ∙ ap (λ z. laid_hop (setting_with (laid_program flow ls) z r.base) (T.layout F) r.block S) tied.passed
       ∙ ap (λ b. laid_hop TheSetting (T.layout F) b S) block ∙ ap (λ x. some_word_hop TheSetting p x S) plan
 
   next_is : (h : Hop) → word_hop TheSetting p word S ≡ h → next (laid_program flow ls) r ≡ after_hop (laid_program flow ls) r h
@@ -96,7 +98,7 @@ module _ (T : Target) (flow : Flow) (ls : List VWords) (w : WordProgram) (sound 
 
   goes_past : (q : ℕ) → next (laid_program flow ls) r ≡ On (record r { block = suc q }) → LeadsTo p word q → ((y : ℕ) → IsIn y (word_writes word) → ⊥) → Goes (past T F q)
   goes_past q step leads none =
-      let led : Led T flow ls r tied.is tied.passed q (past T F q) = led_past T flow ls r tied.is tied.passed q in
+      let led : Led T flow ls r tied.is q (past T F q) = led_past T flow ls r tied.is q in
       record { steps = led.steps; over_values = (record r { block = suc q }, step, led.over_values); live = λ y live. beyond plan (none y) leads (led.live y live) }
 
   tied_on : (q : ℕ) (v : State) → Goes q → KeptBy q v → Tied T flow ls (record r { block = suc q }) v
@@ -107,7 +109,6 @@ module _ (T : Target) (flow : Flow) (ls : List VWords) (w : WordProgram) (sound 
     deep = tied.deep;
     stack = λ c lt. k.stack c lt ∙ tied.stack c lt;
     at = inr (q, record { block = refl; place = k.place; values = values; link = link_stays T u v tied.sp F (ap (λ g. word_at g tied.sp) k.memory) k.link ∙ at_word.link });
-    passed = tied.passed;
     stacked = tied.stacked;
     seated = subst (λ g. Seated T flow.globals (stack_from T tied.sp r) S.arrays g) (sym k.memory) tied.seated;
     below = subst (λ g. Below T flow ls g tied.sp r.waiting) (sym k.memory) tied.below;
@@ -116,12 +117,12 @@ module _ (T : Target) (flow : Flow) (ls : List VWords) (w : WordProgram) (sound 
     safe = safe_after (next (laid_program flow ls)) (λ x. x.state.out) (suc goes.steps) r (record r { block = suc q }) goes.over_values tied.safe;
   }
     where
-      values : (y : ℕ) (n : ℤ) → IsLive (T.layout F) q y → S.values y ≡ Some n → Shows T tied.sp F y n (holds T v tied.sp F y)
+      values : (y : ℕ) (n : ℤ) → IsLive (T.layout F) q y → S.values y ≡ Some n → Shows T Here F y n (holds T v tied.sp F y)
       values y n live e = by (is_slotted (kept T F y)) refl (at_word.values y n (goes.live y live) e)
         where
-          by : (b : Bool) → is_slotted (kept T F y) ≡ b → Shows T tied.sp F y n (if b then word_at u.memory (tied.sp + T.slot F y) else register u (register_of T F (y ∷ []) y)) → Shows T tied.sp F y n (if b then word_at v.memory (tied.sp + T.slot F y) else register v (register_of T F (y ∷ []) y))
-          by true h s = subst (λ x. Shows T tied.sp F y n x) (sym (ap (λ g. word_at g (tied.sp + T.slot F y)) k.memory)) s
-          by false h s = subst (λ x. Shows T tied.sp F y n x) (sym (k.registers y (goes.live y live) h)) s
+          by : (b : Bool) → is_slotted (kept T F y) ≡ b → Shows T Here F y n (if b then word_at u.memory (tied.sp + T.slot F y) else register u (register_of T F (y ∷ []) y)) → Shows T Here F y n (if b then word_at v.memory (tied.sp + T.slot F y) else register v (register_of T F (y ∷ []) y))
+          by true h s = subst (λ x. Shows T Here F y n x) (sym (ap (λ g. word_at g (tied.sp + T.slot F y)) k.memory)) s
+          by false h s = subst (λ x. Shows T Here F y n x) (sym (k.registers y (goes.live y live) h)) s
 
   -- to the next place, where no word stands between
   fallen : (q : ℕ) → q ≡ suc p → Goes q → T.starts F (suc p) ≡ u.place + 0 → FallsNext T flow ls p r u
@@ -238,6 +239,9 @@ module _ (T : Target) (flow : Flow) (ls : List VWords) (w : WordProgram) (sound 
   abbrev Fn : ℕ
   Fn = r.function
 
+  abbrev Now : Seating
+  Now = here_of T flow.globals tied.sp r
+
   abbrev Name : List ℕ
   Name = test ∷ []
 
@@ -247,7 +251,7 @@ module _ (T : Target) (flow : Flow) (ls : List VWords) (w : WordProgram) (sound 
   its : IsFunctionOf T flow ls Fn
   its = of T flow ls w sound carries fit r u tied p (Choice test q) block plan
 
-  at_it : AtWord T tied.sp p r u
+  at_it : AtWord T flow.globals tied.sp p r u
   at_it = at_word T flow ls w sound carries fit r u tied p (Choice test q) block plan
 
   graph_sound : Sound (T.graph Fn)
@@ -303,9 +307,9 @@ module _ (T : Target) (flow : Flow) (ls : List VWords) (w : WordProgram) (sound 
       ap (λ b. register got.to (if b then Branch (record { cluster = 0; number = branch_of T Fn Name test }) else General (general_of T Fn Name test))) (sym test_is.1)
       ∙ itself (by (is_slotted (kept T Fn test)) refl (at_it.values test n live e)) test_is.0
     where
-      by : (b : Bool) → is_slotted (kept T Fn test) ≡ b → Shows T tied.sp Fn test n (if b then word_at u.memory (tied.sp + T.slot Fn test) else register u (register_of T Fn (test ∷ []) test)) → Shows T tied.sp Fn test n (register got.to (register_of T Fn Name test))
-      by true h k = subst (λ x. Shows T tied.sp Fn test n x) (sym (got.at test (slotted_in T Fn test Name (inl refl) h))) (read_shows T tied.sp Fn test n _ (branch_plain T Fn Any graph_sound its.mapped.code test) k)
-      by false h k = subst (λ x. Shows T tied.sp Fn test n x) (sym (got.others (register_of T Fn Name test) (λ v i. absurd (let c = slotted_from T Fn v Name i in let z : is_slotted (kept T Fn test) ≡ true = ap (λ x. is_slotted (kept T Fn x)) (sym (is_test v c.0)) ∙ c.1 in let y : true ≡ false = sym z ∙ h in cc)) test_usable.not_answer)) k
+      by : (b : Bool) → is_slotted (kept T Fn test) ≡ b → Shows T Now Fn test n (if b then word_at u.memory (tied.sp + T.slot Fn test) else register u (register_of T Fn (test ∷ []) test)) → Shows T Now Fn test n (register got.to (register_of T Fn Name test))
+      by true h k = subst (λ x. Shows T Now Fn test n x) (sym (got.at test (slotted_in T Fn test Name (inl refl) h))) (read_shows T Now Fn test n _ (branch_plain T Fn Any graph_sound its.mapped.code test) k)
+      by false h k = subst (λ x. Shows T Now Fn test n x) (sym (got.others (register_of T Fn Name test) (λ v i. absurd (let c = slotted_from T Fn v Name i in let z : is_slotted (kept T Fn test) ≡ true = ap (λ x. is_slotted (kept T Fn x)) (sym (is_test v c.0)) ∙ c.1 in let y : true ≡ false = sym z ∙ h in cc)) test_usable.not_answer)) k
 
   abbrev Jump : Word
   Jump = one (BranchOn (branch_of T Fn Name test) true (T.starts Fn Arrives))

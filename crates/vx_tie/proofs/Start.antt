@@ -9,9 +9,10 @@ use Rattle.vx_base.specs.Outcome.{NeverFails}
 use Rattle.vx_base.proofs.Runs.{run_reach}
 use Rattle.vx_flow.specs.declared.graph.Global.{Global}
 use Rattle.vx_flow.specs.declared.graph.Flow.{Flow}
+use Rattle.vx_flow.specs.declared.graph.Graph.{Graph}
 use Rattle.vx_flow.specs.Effects.{Content, State as VState}
-use Rattle.vx_flow.specs.Meaning.{Active, Body, undefined, own_of, entered, entered_or, at_entry, at_start, words_at_start, globals_at_start, deepest, program_run}
-use Rattle.vx_flow.specs.Sound.{SoundFlow, is_sound_flow}
+use Rattle.vx_flow.specs.Meaning.{Active, Body, undefined, bases_of, own_of, entered, entered_or, at_entry, at_start, words_at_start, globals_at_start, deepest, program_run}
+use Rattle.vx_flow.specs.Sound.{Sound, SoundFlow, is_sound_flow}
 use Rattle.vx_flow.proofs.SoundFlowLaw.{told}
 use Rattle.vx_isa.specs.declared.operation.Register.TheVariants.{General, Link}
 use Rattle.vx_isa.specs.declared.operation.Source.TheVariants.{Held, Number}
@@ -23,13 +24,14 @@ use Rattle.vx_isa.specs.Machine.{State, register, start, step, memory_at_start}
 use Rattle.vx_mixed.specs.declared.layout.VWords.{VWords}
 use Rattle.vx_layout.specs.Laid.{laid_hop, laid_body, laid_program, laid_run}
 use Rattle.vx_target.specs.Target.{Target, stack_on, one, answer, set_stack, start_words, first_frame, halt_place, bytes, parameters_of}
-use Rattle.vx_target.specs.Tied.{Tied, Deep, IsStack, Seated, stack_from, row_in, word_at, words_before}
+use Rattle.vx_target.specs.Tied.{Tied, Deep, WasPassed, IsStack, Seated, active_at, stack_from, row_in, word_at, words_before}
 use Rattle.vx_target.specs.Carried.{Carries, IsFunctionOf, first_or_zero}
 use Rattle.vx_tie.specs.Planned.{StartsTied, StartLaw}
 use Rattle.vx_target.proofs.Calm.{after, AllFit, put_at, put_off}
 use Rattle.vx_target.proofs.Cells.{row_there}
-use Rattle.vx_target.proofs.Frames.{get_below, get_some}
+use Rattle.vx_target.proofs.Frames.{get_below, get_some, get_in}
 use Rattle.vx_target.proofs.SeatSteps.{entered_stack, entered_seated}
+use Rattle.vx_tie.proofs.Handed.{nothing_aligned, nothing_below}
 use Rattle.vx_tie.proofs.Moves.{Moved, move_run}
 use Rattle.vx_target.proofs.Steps.{Stands, stands_left, stands_right, Forth, forth_comes, then_forth, word_step}
 use Rattle.vx_target.proofs.Stands.{start_stands}
@@ -76,7 +78,7 @@ module _ (T : Target) (flow : Flow) (ls : List VWords) (w : WordProgram) (sound 
   Begin = globals_at_start flow input
 
   abbrev TheBody : Body
-  TheBody = record { parameters = parameters_of T Main; own = own_of Globals (T.graph Main); hop = λ setting b s. laid_hop setting (T.layout Main) b s }
+  TheBody = record { parameters = parameters_of T Main; bases = bases_of Globals (T.graph Main); own = own_of Globals (T.graph Main); hop = λ setting b s. laid_hop setting (T.layout Main) b s }
 
   body_is : (laid_program flow ls).body Main ≡ Some TheBody
   body_is = ap (λ g. laid_body Globals g (slice_get ls Main)) of.is.graph ∙ ap (λ l. laid_body Globals (Some (T.graph Main)) l) of.is.layout
@@ -169,11 +171,25 @@ module _ (T : Target) (flow : Flow) (ls : List VWords) (w : WordProgram) (sound 
         ap (λ m. word_at m (words_before flow.globals k + i)) memory_is ∙ carries.start k i x.0 x.1 li ∙ global_cell x.0 i n li (ap (λ r. slice_index_or r i None) (sym (first_row k x.0 x.1)) ∙ e));
   }
 
+  -- main has no parameter, so none of its arrays was handed over
+
+  main_sound : Sound (T.graph Main)
+  main_sound = sound.graphs (T.graph Main) (get_in flow.functions Main (T.graph Main) of.is.graph)
+
+  none_passed : length (T.graph Main).parameters ≡ 0
+  none_passed =
+      let z : Some sound.main.graph ≡ Some (T.graph Main) = sym sound.main.is ∙ of.is.graph in
+      let q : sound.main.graph ≡ T.graph Main = cc in
+      ap (λ (h : Graph). length h.parameters) (sym q) ∙ sound.main.parameters
+
+  was_passed : WasPassed T Globals (active_at First Entered)
+  was_passed = record { aligned = nothing_aligned Globals (T.graph Main) main_sound none_passed; below = nothing_below (length Begin.arrays) }
+
   stacked : IsStack T flow ls First (length (Firsts ++ Owns)) (stack_from T First Entered)
-  stacked = entered_stack T flow ls [] First Firsts Main of.is no_stack
+  stacked = entered_stack T flow ls [] First Firsts Main [] of.is was_passed no_stack
 
   seated : Seated T flow.globals (stack_from T First Entered) (Firsts ++ Owns) B.memory
-  seated = entered_seated T flow ls [] (First + T.frame) Firsts B.memory Main First no_stack globals_seated
+  seated = entered_seated T flow ls [] (First + T.frame) Firsts B.memory Main First [] no_stack globals_seated
 
   tied : Tied T flow ls Entered B
   tied = record {
@@ -183,7 +199,6 @@ module _ (T : Target) (flow : Flow) (ls : List VWords) (w : WordProgram) (sound 
     deep = deep;
     stack = stack_is;
     at = inl (record { block = refl; place = refl; values = λ v n e. absurd (no_arguments (parameters_of T Main) v n e); link = link_is });
-    passed = refl;
     stacked = stacked;
     seated = seated;
     below = tt;

@@ -5,7 +5,7 @@ use Rattle.vx_base.specs.Outcome.{Outcome, Goes, Same, NeverFails, Over, step_th
 use Rattle.vx_base.proofs.Meeting.{MeetsAt, Far, Done, meeting_same}
 use Rattle.vx_base.proofs.Runs.{run_steady, safe_end}
 use Rattle.vx_flow.specs.declared.graph.Flow.{Flow}
-use Rattle.vx_flow.specs.Meaning.{Active, at_start, globals_at_start, setting_with, setting_of, body_hop, after_hop, next}
+use Rattle.vx_flow.specs.Meaning.{Active, at_start, globals_at_start, setting_with, body_hop, after_hop, next}
 use Rattle.vx_flow.specs.Sound.{is_sound_flow}
 use Rattle.vx_isa.specs.declared.program.WordProgram.{WordProgram}
 use Rattle.vx_isa.specs.Machine.{State, step, start}
@@ -46,7 +46,7 @@ module _ (T : Target) (flow : Flow) (ls : List VWords) (w : WordProgram) (sound 
       let steps : next P r ≡ Over (Outcome.Wrong r.state.out) =
       ap (after_hop P r)
       (ap (body_hop P r) (ap (λ y. laid_body (length flow.globals) y (slice_get ls r.function)) tied.is.graph ∙ ap (λ l. laid_body (length flow.globals) (Some (T.graph r.function)) l) tied.is.layout)
-      ∙ ap (λ z. laid_hop (setting_with P z r.base) (T.layout r.function) r.block r.state) tied.passed ∙ ap (λ b. laid_hop (setting_of P r.base) (T.layout r.function) b r.state) block ∙ ap (λ y. some_word_hop (setting_of P r.base) p y r.state) plan) in
+      ∙ ap (λ b. laid_hop (setting_with P r.passed r.base) (T.layout r.function) b r.state) block ∙ ap (λ y. some_word_hop (setting_with P r.passed r.base) p y r.state) plan) in
       safe_end (next P) (λ q. q.state.out) r (Outcome.Wrong r.state.out) steps tied.safe tt
 
   at_place : (r : Active) (u : State) → Tied T flow ls r u → (p : ℕ) → r.block ≡ suc p → (o : Option VirtualWord) → slice_get (T.layout r.function).words p ≡ o → Meets r u ⊎ FallsNext T flow ls p r u
@@ -97,8 +97,8 @@ module _ (T : Target) (flow : Flow) (ls : List VWords) (w : WordProgram) (sound 
 
   meets_next : (n : ℕ) (r : Active) (u : State) → ((s : Active) (v : State) → Tied T flow ls s v → MeetAt n s v) → Tied T flow ls r u → MeetAt (suc n) r u
   meets_next n r u more tied = ⊎_elim
-      (λ (a : AtEntry T tied.sp r u). from_entry n r u more (entry_law T flow ls w sound carries fit r u tied a.block))
-      (λ (a : (p : ℕ) × AtWord T tied.sp p r u). from_word n r u more tied a.0 a.1.block)
+      (λ (a : AtEntry T flow.globals tied.sp r u). from_entry n r u more (entry_law T flow ls w sound carries fit r u tied a.block))
+      (λ (a : (p : ℕ) × AtWord T flow.globals tied.sp p r u). from_word n r u more tied a.0 a.1.block)
       tied.at
 
   meets_at : (n : ℕ) (r : Active) (u : State) → Tied T flow ls r u → MeetAt n r u

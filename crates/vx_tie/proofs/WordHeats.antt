@@ -8,7 +8,7 @@ use Rattle.std.proofs.lemmas.List.{append-nil}
 use Rattle.vx_base.proofs.Pieces.{Hit, raised, cold, fine_less, fine_append}
 use Rattle.vx_flow.specs.declared.graph.Array.{Array}
 use Rattle.vx_flow.specs.declared.graph.Op.{Op}
-use Rattle.vx_flow.specs.declared.graph.Op.TheVariants.{Compute, Select, Place, Load, Store, More, Input, Text, Decimal, Across}
+use Rattle.vx_flow.specs.declared.graph.Op.TheVariants.{Compute, Select, Place, Load, Store, More, Input, Text, Decimal, Across, Base, PlaceIn}
 use Rattle.vx_flow.specs.Effects.{IsIn, reads, writes}
 use Rattle.vx_flow.specs.Sound.{Sound}
 use Rattle.vx_flow.specs.Operands.{read_by as reading, written_by, value_list}
@@ -72,6 +72,8 @@ all_there (Input v) y i = i
 all_there (Text n) y i = i
 all_there (Decimal x) y i = i
 all_there (Across v u) y i = absurd i
+all_there (Base v a x) y i = i
+all_there (PlaceIn v a u x) y i = i
 
 -- a value that is in a register other than r is named by another register
 

@@ -36,3 +36,6 @@ returns-in-Across c =
     ap (λ (r : GeneralRegister). Move s.cluster r (Held c.general_of.result)) c.target_of-in-Across.ensures
     ∙ ap (λ (r : GeneralRegister). Move s.cluster (general_of T s.function s.writes.now c.in-Across.to) (Held r)) c.general_of.ensures
     ∙ ap (at_site c.args.whole.now s) (sym c.in-Across.is)
+
+pub returns-in-PlaceIn : goal.returns-in-PlaceIn
+returns-in-PlaceIn c = c.carried_place_in.ensures ∙ ap (at_site c.args.whole.now c.args.site.now) (sym c.in-PlaceIn.is)
