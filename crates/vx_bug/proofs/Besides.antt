@@ -5,7 +5,7 @@ use Rattle.std.proofs.lemmas.Bool.{true≢false, or_left, or_right, lt-ltb, eq-e
 use Rattle.std.proofs.lemmas.List.{append-nil}
 use Rattle.std.proofs.lemmas.Option.{slice_get_within}
 use Rattle.vx_flow.specs.declared.graph.Operand.{Operand}
-use Rattle.vx_flow.specs.declared.graph.Op.TheVariants.{Compute, Select, Place, Load, Store, More, Input, Text, Decimal, Across}
+use Rattle.vx_flow.specs.declared.graph.Op.TheVariants.{Compute, Select, Place, Load, Store, More, Input, Text, Decimal, Across, Base, PlaceIn}
 use Rattle.vx_flow.specs.declared.trace.TraceOp.{TraceOp}
 use Rattle.vx_flow.specs.declared.trace.TraceOp.TheVariants.{Plain, Split}
 use Rattle.vx_flow.specs.declared.trace.Trace.{Trace}
@@ -76,6 +76,8 @@ same_kind to (Plain (Input v)) = refl
 same_kind to (Plain (Text n)) = refl
 same_kind to (Plain (Decimal x)) = refl
 same_kind to (Plain (Across v u)) = refl
+same_kind to (Plain (Base v a x)) = refl
+same_kind to (Plain (PlaceIn v a u i)) = refl
 
 bound_from : (op : TraceOp) → stays_at_zero op ≡ true → is_bound op ≡ true
 bound_from (Split test leaves_when edge live) e = refl
@@ -126,6 +128,8 @@ source_there m homes k (Plain (Input v)) l a = own_cluster m k l
 source_there m homes k (Plain (Text n)) l a = own_cluster m k l
 source_there m homes k (Plain (Decimal x)) l a = own_cluster m k l
 source_there m homes k (Plain (Across v u)) l a = a v u refl
+source_there m homes k (Plain (Base v b x)) l a = own_cluster m k l
+source_there m homes k (Plain (PlaceIn v x u i)) l a = own_cluster m k l
 
 -- the assignment
 

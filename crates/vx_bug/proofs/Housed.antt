@@ -3,7 +3,7 @@
 use Rattle.std.proofs.Common.{◌≡◌, ◌<◌, ◌≤◌, ◌+◌, ◌*◌, ◌⊎◌, inl, inr, ⊎_elim, ◌==◌, refl, sym, ◌∙◌, ap, arith, Bool, true, false, if◌then◌else◌, ℕ, Option, Some, None, List, [], ◌∷◌, map}
 use Rattle.std.proofs.lemmas.Bool.{eqb-true, eq-eqb, cases_lt}
 use Rattle.std.proofs.lemmas.Nat.{mul-add-lt}
-use Rattle.vx_flow.specs.declared.graph.Op.TheVariants.{Compute, Select, Place, Load, Store, More, Input, Text, Decimal, Across}
+use Rattle.vx_flow.specs.declared.graph.Op.TheVariants.{Compute, Select, Place, Load, Store, More, Input, Text, Decimal, Across, Base, PlaceIn}
 use Rattle.vx_flow.specs.declared.trace.TraceOp.{TraceOp}
 use Rattle.vx_flow.specs.declared.trace.TraceOp.TheVariants.{Plain, Split}
 use Rattle.vx_flow.specs.Effects.{IsIn}
@@ -49,6 +49,8 @@ pub either : (values : ℕ) (homes : ℕ → Option ℕ) (fixed : Option ℕ) (o
 either values homes (Some f) op cluster = inr (λ u. refl)
 either values homes None (Split test leaves_when edge live) cluster = inr (λ u. refl)
 either values homes None (Plain (Across to from)) cluster = across_either values homes to from cluster
+either values homes None (Plain (Base v a x)) cluster = inr (λ u. refl)
+either values homes None (Plain (PlaceIn v a w i)) cluster = inr (λ u. refl)
 either values homes None (Plain (Compute code v a b)) cluster = inr (λ u. refl)
 either values homes None (Plain (Select v test a b)) cluster = inr (λ u. refl)
 either values homes None (Plain (Place v a i)) cluster = inr (λ u. refl)

@@ -1,7 +1,7 @@
 -- Copies are made of values of the function's graph.
 use Rattle.std.proofs.Common.{◌≡◌, ◌<◌, ◌+◌, inl, inr, ⊎_elim, ◌&&◌, not, refl, sym, ◌∙◌, ap, subst, Bool, true, false, if◌then◌else◌, ℕ, suc, Option, Some, None, List, [], ◌∷◌, ◌++◌, map, slice_get, slice_index_or}
 use Rattle.std.proofs.lemmas.Bool.{true≢false}
-use Rattle.vx_flow.specs.declared.graph.Op.TheVariants.{Compute, Select, Place, Load, Store, More, Input, Text, Decimal, Across}
+use Rattle.vx_flow.specs.declared.graph.Op.TheVariants.{Compute, Select, Place, Load, Store, More, Input, Text, Decimal, Across, Base, PlaceIn}
 use Rattle.vx_flow.specs.declared.trace.TraceOp.{TraceOp}
 use Rattle.vx_flow.specs.declared.trace.TraceOp.TheVariants.{Plain, Split}
 use Rattle.vx_flow.specs.declared.trace.Trace.{Trace}
@@ -37,6 +37,8 @@ general_in (Plain (Input v)) x h = h
 general_in (Plain (Text n)) x h = h
 general_in (Plain (Decimal y)) x h = h
 general_in (Plain (Across v u)) x h = h
+general_in (Plain (Base v a y)) x h = h
+general_in (Plain (PlaceIn v a u i)) x h = h
 
 across_in : (values k : ℕ) (vs : List ℕ) (l v : ℕ) → IsIn (across values l v) (map (across values k) vs) → IsIn v vs
 across_in values k [] l v h = absurd h
@@ -59,6 +61,8 @@ stays to (Plain (Input v)) = refl
 stays to (Plain (Text n)) = refl
 stays to (Plain (Decimal x)) = refl
 stays to (Plain (Across v u)) = refl
+stays to (Plain (Base v a x)) = refl
+stays to (Plain (PlaceIn v a u i)) = refl
 
 pub reading_is_none : (fixed : Option ℕ) (op : TraceOp) → reads_copies fixed op ≡ true → (fixed ≡ None) × (is_across op ≡ false)
 reading_is_none (Some f) op e = absurd cc
@@ -73,6 +77,8 @@ reading_is_none None (Plain (Input v)) e = (refl, refl)
 reading_is_none None (Plain (Text n)) e = (refl, refl)
 reading_is_none None (Plain (Decimal x)) e = (refl, refl)
 reading_is_none None (Plain (Across v u)) e = absurd cc
+reading_is_none None (Plain (Base v a x)) e = (refl, refl)
+reading_is_none None (Plain (PlaceIn v a u i)) e = (refl, refl)
 
 -- a piece
 

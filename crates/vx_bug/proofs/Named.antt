@@ -4,7 +4,7 @@ use Rattle.std.specs.List.{list_any}
 use Rattle.vx_flow.specs.declared.graph.Operand.{Operand}
 use Rattle.vx_flow.specs.declared.graph.Operand.TheVariants.{Held, Number, Stack}
 use Rattle.vx_flow.specs.declared.graph.Op.{Op}
-use Rattle.vx_flow.specs.declared.graph.Op.TheVariants.{Compute, Select, Place, Load, Store, More, Input, Text, Decimal, Across}
+use Rattle.vx_flow.specs.declared.graph.Op.TheVariants.{Compute, Select, Place, Load, Store, More, Input, Text, Decimal, Across, Base, PlaceIn}
 use Rattle.vx_flow.specs.declared.operands.Reads.{Reads}
 use Rattle.vx_flow.specs.declared.trace.TraceOp.{TraceOp}
 use Rattle.vx_flow.specs.declared.trace.TraceOp.TheVariants.{Plain, Split}
@@ -54,6 +54,8 @@ general_is (Input v) = refl
 general_is (Text n) = refl
 general_is (Decimal x) = one x
 general_is (Across v u) = refl
+general_is (Base v a x) = refl
+general_is (PlaceIn v a u i) = two i (Held u)
 
 general_by : (op : TraceOp) (r : Reads) → r ≡ read op → general_reads op ≡ general_of (has_test op) r
 general_by (Plain op) r e = general_is op ∙ ap (general_of (has_test (Plain op))) (sym e)

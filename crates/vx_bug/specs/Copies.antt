@@ -3,7 +3,7 @@
 use Rattle.std.specs.Prelude.{◌+◌, ◌*◌, ◌&&◌, ◌==◌, not, ℕ, Bool, true, false, if◌then◌else◌, nat_eq, Option, Some, None, List, [], ◌∷◌, ◌++◌, length, map, take, flat_map}
 use Rattle.std.specs.List.{list_any, filter}
 use Rattle.vx_flow.specs.declared.graph.Op.{Op}
-use Rattle.vx_flow.specs.declared.graph.Op.TheVariants.{Across}
+use Rattle.vx_flow.specs.declared.graph.Op.TheVariants.{Across, PlaceIn}
 use Rattle.vx_flow.specs.declared.trace.TraceOp.{TraceOp}
 use Rattle.vx_flow.specs.declared.trace.TraceOp.TheVariants.{Plain, Split}
 use Rattle.vx_flow.specs.declared.trace.Join.{Join}
@@ -49,6 +49,7 @@ copied_for homes cluster served (v ∷ vs) =
 -- the operation with other general values among its operands
 
 abbrev pub renamed : (ℕ → ℕ) → Op → Op
+renamed to (PlaceIn v a base i) = PlaceIn v a (to base) (with_value_in to i)
 renamed to op = with_operands (with_value_in to) op
 
 abbrev pub renamed_op : (ℕ → ℕ) → TraceOp → TraceOp

@@ -96,9 +96,28 @@ fn operand_here(site: &Site, operand: &Operand) -> Result<Operand, NoMemory>
 fn plain_here(site: &Site, op: &Op) -> Result<Op, NoMemory>
     ensures { IfOk result (λ found. found ≡ renamed (here site.now.values (homes_in site.now.homes.now) site.now.cluster) op.now) }
 {
-    let first = operand_here(site, &first_operand(op))?;
-    let second = operand_here(site, &second_operand(op))?;
-    Ok(with_two(op, first, second))
+    match op {
+        Op::PlaceIn {
+            to,
+            array,
+            base,
+            index,
+        } => {
+            let base = value_here(site, *base)?;
+            let index = operand_here(site, index)?;
+            Ok(Op::PlaceIn {
+                to: *to,
+                array: *array,
+                base,
+                index,
+            })
+        }
+        _ => {
+            let first = operand_here(site, &first_operand(op))?;
+            let second = operand_here(site, &second_operand(op))?;
+            Ok(with_two(op, first, second))
+        }
+    }
 }
 
 fn op_here(alloc: Global, site: &Site, op: &TraceOp) -> Result<TraceOp, NoMemory>

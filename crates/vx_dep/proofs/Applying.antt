@@ -2,7 +2,7 @@
 use Rattle.std.proofs.Common.{◌≡◌, ◌<◌, ◌≤◌, ◌⊎◌, inl, inr, ℕ, refl, sym, ◌∙◌, ap, arith, subst, max, nat_le, Bool, true, false, ◌&&◌, ◌||◌, if◌then◌else◌, Option, Some, None}
 use Rattle.std.proofs.lemmas.Bool.{or_cases, or_left, or_right, false≢true}
 use Rattle.std.proofs.lemmas.Bool.Decides.{leb_tells}
-use Rattle.vx_flow.specs.declared.graph.Op.TheVariants.{Compute, Select, Place, Load, Store, More, Input, Text, Decimal, Across}
+use Rattle.vx_flow.specs.declared.graph.Op.TheVariants.{Compute, Select, Place, Load, Store, More, Input, Text, Decimal, Across, Base, PlaceIn}
 use Rattle.vx_flow.specs.declared.trace.TraceOp.{TraceOp}
 use Rattle.vx_flow.specs.declared.trace.TraceOp.TheVariants.{Plain, Split}
 use Rattle.vx_flow.specs.declared.trace.Trace.{Trace}
@@ -41,6 +41,8 @@ load_alone (Plain (Input v)) e f = absurd (false≢true e)
 load_alone (Plain (Text n)) e f = absurd (false≢true e)
 load_alone (Plain (Decimal x)) e f = absurd (false≢true e)
 load_alone (Plain (Across v u)) e f = absurd (false≢true e)
+load_alone (Plain (Base v a x)) e f = absurd (false≢true e)
+load_alone (Plain (PlaceIn v a u i)) e f = absurd (false≢true e)
 load_alone (Split test leaves_when edge live) e f = absurd (false≢true e)
 
 -- what the three tests come to say of a number

@@ -4,7 +4,7 @@ use Rattle.std.proofs.lemmas.Int.{ints}
 use Rattle.std.proofs.lemmas.Bool.Decides.{nat_tests}
 use Rattle.vx_flow.specs.declared.graph.Array.{Array}
 use Rattle.vx_flow.specs.declared.graph.Operand.{Operand}
-use Rattle.vx_flow.specs.declared.graph.Op.TheVariants.{Compute, Select, Place, Load, Store, More, Input, Text, Decimal, Across}
+use Rattle.vx_flow.specs.declared.graph.Op.TheVariants.{Compute, Select, Place, Load, Store, More, Input, Text, Decimal, Across, Base, PlaceIn}
 use Rattle.vx_flow.specs.declared.trace.TraceOp.{TraceOp}
 use Rattle.vx_flow.specs.declared.trace.TraceOp.TheVariants.{Plain, Split}
 use Rattle.vx_flow.specs.declared.trace.Trace.{Trace}
@@ -75,6 +75,8 @@ module _ (t : Trace) (setting : Setting) (s : State) (n a c : ℕ) (f : Form) wh
   accessed (Plain (Text m)) e h = absurd (no_some f e)
   accessed (Plain (Decimal x)) e h = absurd (no_some f e)
   accessed (Plain (Across v u)) e h = absurd (no_some f e)
+  accessed (Plain (Base v a x)) e h = absurd (no_some f e)
+  accessed (Plain (PlaceIn v b u x)) e h = absurd (no_some f e)
   accessed (Split test leaves_when edge live) e h = absurd (no_some f e)
 
 -- the place of a cell

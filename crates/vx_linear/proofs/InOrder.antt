@@ -2,7 +2,7 @@
 use Rattle.std.proofs.Common.{◌≡◌, ℕ, zero, suc, ◌+◌, ◌-◌, ◌≤◌, refl, sym, ◌∙◌, ap, arith, Bool, true, false, ◌||◌, ◌==◌, nat_eq, if◌then◌else◌, Option, Some, None, List, [], ◌∷◌, drop, slice_get, ℤ}
 use Rattle.std.proofs.lemmas.Bool.{false≢true, true≢false}
 use Rattle.std.proofs.lemmas.Bool.Decides.{nat_tests}
-use Rattle.vx_flow.specs.declared.graph.Op.TheVariants.{Compute, Select, Place, Load, Store, More, Input, Text, Decimal, Across}
+use Rattle.vx_flow.specs.declared.graph.Op.TheVariants.{Compute, Select, Place, Load, Store, More, Input, Text, Decimal, Across, Base, PlaceIn}
 use Rattle.vx_flow.specs.declared.trace.TraceOp.{TraceOp}
 use Rattle.vx_flow.specs.declared.trace.TraceOp.TheVariants.{Plain, Split}
 use Rattle.vx_flow.specs.declared.trace.Trace.{Trace}
@@ -62,6 +62,8 @@ kept setting s (Plain (Input w)) v h = input_kept s w v s.input h
 kept setting s (Plain (Text n)) v h = refl
 kept setting s (Plain (Decimal x)) v h = printed_kept s v s.out (held s x)
 kept setting s (Plain (Across w u)) v h = with_value_kept s w v _ h
+kept setting s (Plain (Base w a x)) v h = with_value_kept s w v _ h
+kept setting s (Plain (PlaceIn w a u i)) v h = with_value_kept s w v _ h
 kept setting s (Split test leaves_when edge live) v h = refl
 
 -- the value that an operation writes
@@ -76,6 +78,8 @@ written (Plain (Input w)) = w
 written (Plain (Text n)) = 0
 written (Plain (Decimal x)) = 0
 written (Plain (Across w u)) = w
+written (Plain (Base w a x)) = w
+written (Plain (PlaceIn w a u i)) = w
 written (Split test leaves_when edge live) = 0
 
 abbrev pub written_there : Option TraceOp → ℕ
@@ -96,6 +100,8 @@ written_is v (Plain (Input w)) h = one_written v w h
 written_is v (Plain (Text n)) h = absurd (false≢true h)
 written_is v (Plain (Decimal x)) h = absurd (false≢true h)
 written_is v (Plain (Across w u)) h = one_written v w h
+written_is v (Plain (Base w a x)) h = one_written v w h
+written_is v (Plain (PlaceIn w a u i)) h = one_written v w h
 written_is v (Split test leaves_when edge live) h = absurd (false≢true h)
 
 pub written_there_is : (v : ℕ) (op : Option TraceOp) → writes_there v op ≡ true → written_there op ≡ v

@@ -8,11 +8,11 @@ use Rattle.vx_base.specs.Arithmetic.{wrap, product_of, quotient_of}
 use Rattle.vx_base.proofs.WrapLaws.{wrap-and_multiple, wraps_alike_law}
 use Rattle.vx_flow.specs.declared.graph.Operand.{Operand}
 use Rattle.vx_flow.specs.declared.graph.Operand.TheVariants.{Held, Number, Stack}
-use Rattle.vx_flow.specs.declared.graph.Op.TheVariants.{Compute, Select, Place, Load, Store, More, Input, Text, Decimal, Across}
+use Rattle.vx_flow.specs.declared.graph.Op.TheVariants.{Compute, Select, Place, Load, Store, More, Input, Text, Decimal, Across, Base, PlaceIn}
 use Rattle.vx_flow.specs.declared.trace.TraceOp.{TraceOp}
 use Rattle.vx_flow.specs.declared.trace.TraceOp.TheVariants.{Plain, Split}
 use Rattle.vx_flow.specs.declared.trace.Trace.{Trace}
-use Rattle.vx_flow.specs.Effects.{Content, State, Setting, held, place_of}
+use Rattle.vx_flow.specs.Effects.{Content, State, Setting, held, place_of, place_by}
 use Rattle.vx_linear.specs.declared.form.Symbol.{Symbol}
 use Rattle.vx_linear.specs.declared.form.Symbol.TheVariants.{MadePlace}
 use Rattle.vx_linear.specs.declared.linear.Linear.{Linear}
@@ -63,6 +63,10 @@ names_place s a (Some n) h p e aligned =
     let whole : p ≡ p / 4 * 4 = omega (arith, div-add-mod' p 4, aligned) in
     record { multiple = l.0 *ℤ pos 4 -ℤ k.0; is = quarter n (amount s a) k.0 l.0 p (p / 4) whole (k.1 ∙ ap (λ z. z +ℤ k.0 *ℤ pos (2 ^ 32)) is) l.1 }
 
+names_place_by : (s : Symbol → ℤ) (a : Linear) (b x : Content) → Tells s a x → Names s a (place_by b x)
+names_place_by s a None x h p e aligned = absurd (no_some (pos p) e)
+names_place_by s a (Some k) x h p e aligned = names_place s a x h p e aligned
+
 -- behind a join nothing is followed
 joined : (b : Bool) (above : List Above) (v : ℕ) → b ≡ true → index_of (join_at b above) (Held v) ≡ symbol (made_or_entry_place (join_at b above) v)
 joined true above v h = refl
@@ -110,6 +114,10 @@ module _ (setting : Setting) (t : Trace) (q : ℕ) (s : State) where
   made_names i v (Plain (Text n)) told h e = names_symbol number (MadePlace i) _ e
   made_names i v (Plain (Decimal x)) told h e = names_symbol number (MadePlace i) _ e
   made_names i v (Plain (Across w u)) told h e = names_symbol number (MadePlace i) _ e
+  made_names i v (Plain (Base w a x)) told h e = names_symbol number (MadePlace i) _ e
+  made_names i v (Plain (PlaceIn w a u x)) told h e =
+      subst (λ y. Names number ((known (above_of t i) x).linear) y) (sym (with_value_there (before i) w v (place_by ((before i).values u) (held (before i) x)) h))
+      (names_place_by number ((known (above_of t i) x).linear) ((before i).values u) (held (before i) x) (told x).tells)
   made_names i v (Split test leaves_when edge live) told h e = names_symbol number (MadePlace i) _ e
 
   abbrev HeldNames : ℕ → Type 0

@@ -6,7 +6,7 @@ use Rattle.vx_base.specs.declared.arithmetic.Code.TheVariants.{Add, Sub, And, Or
 use Rattle.vx_base.specs.Arithmetic.{sum_of, product_of, value_of}
 use Rattle.vx_flow.specs.declared.graph.Operand.{Operand}
 use Rattle.vx_flow.specs.declared.graph.Operand.TheVariants.{Held, Number, Stack}
-use Rattle.vx_flow.specs.declared.graph.Op.TheVariants.{Compute, Select, Place, Load, Store, More, Input, Text, Decimal, Across}
+use Rattle.vx_flow.specs.declared.graph.Op.TheVariants.{Compute, Select, Place, Load, Store, More, Input, Text, Decimal, Across, Base, PlaceIn}
 use Rattle.vx_flow.specs.declared.trace.TraceOp.{TraceOp}
 use Rattle.vx_flow.specs.declared.trace.TraceOp.TheVariants.{Plain, Split}
 use Rattle.vx_flow.specs.declared.trace.Trace.{Trace}
@@ -178,6 +178,8 @@ made_ordered i (Plain (Input v)) know o = symbol_ordered (Made i)
 made_ordered i (Plain (Text n)) know o = symbol_ordered (Made i)
 made_ordered i (Plain (Decimal x)) know o = symbol_ordered (Made i)
 made_ordered i (Plain (Across v u)) know o = symbol_ordered (Made i)
+made_ordered i (Plain (Base v a x)) know o = symbol_ordered (Made i)
+made_ordered i (Plain (PlaceIn v a u k)) know o = symbol_ordered (Made i)
 made_ordered i (Split test leaves_when edge live) know o = symbol_ordered (Made i)
 
 known_ordered : (above : List Above) (x : Operand) → KnownOrdered (known above x)
@@ -204,6 +206,8 @@ index_made_ordered i (Plain (Input v)) above = refl
 index_made_ordered i (Plain (Text n)) above = refl
 index_made_ordered i (Plain (Decimal x)) above = refl
 index_made_ordered i (Plain (Across v u)) above = refl
+index_made_ordered i (Plain (Base v a x)) above = refl
+index_made_ordered i (Plain (PlaceIn v a u index)) above = (known_ordered above index).linear
 index_made_ordered i (Split test leaves_when edge live) above = refl
 
 index_ordered : (above : List Above) (x : Operand) → is_ordered (index_of above x).terms ≡ true
@@ -237,6 +241,8 @@ at_ordered t i (Plain (Input v)) form e = absurd (no_form form e)
 at_ordered t i (Plain (Text n)) form e = absurd (no_form form e)
 at_ordered t i (Plain (Decimal x)) form e = absurd (no_form form e)
 at_ordered t i (Plain (Across v u)) form e = absurd (no_form form e)
+at_ordered t i (Plain (Base v a x)) form e = absurd (no_form form e)
+at_ordered t i (Plain (PlaceIn v a u k)) form e = absurd (no_form form e)
 at_ordered t i (Split test leaves_when edge live) form e = absurd (no_form form e)
 
 from_ordered : (t : Trace) (k : ℕ) (ops : List TraceOp) (i : ℕ) (form : Form) → slice_get (forms_from t k ops) i ≡ Some (Some form) → is_ordered form.terms ≡ true

@@ -4,7 +4,7 @@ use Rattle.std.proofs.Common.{◌≡◌, ◌⊎◌, inl, inr, ℕ, zero, suc, �
 use Rattle.std.proofs.lemmas.Bool.{false≢true, cases_lt}
 use Rattle.vx_flow.specs.declared.graph.Operand.{Operand}
 use Rattle.vx_flow.specs.declared.graph.Operand.TheVariants.{Held, Number, Stack}
-use Rattle.vx_flow.specs.declared.graph.Op.TheVariants.{Compute, Select, Place, Load, Store, More, Input, Text, Decimal, Across}
+use Rattle.vx_flow.specs.declared.graph.Op.TheVariants.{Compute, Select, Place, Load, Store, More, Input, Text, Decimal, Across, Base, PlaceIn}
 use Rattle.vx_flow.specs.declared.trace.TraceOp.{TraceOp}
 use Rattle.vx_flow.specs.declared.trace.TraceOp.TheVariants.{Plain, Split}
 use Rattle.vx_flow.specs.declared.trace.Trace.{Trace}
@@ -123,6 +123,8 @@ module _ (setting : Setting) (t : Trace) (q : ℕ) (s : State) where
   made_told i v (Plain (Text n)) more h tell = told_plain stands _ _ tell
   made_told i v (Plain (Decimal x)) more h tell = told_plain stands _ _ tell
   made_told i v (Plain (Across w u)) more h tell = told_plain stands _ _ tell
+  made_told i v (Plain (Base w a x)) more h tell = told_plain stands _ _ tell
+  made_told i v (Plain (PlaceIn w a u x)) more h tell = told_plain stands _ _ tell
   made_told i v (Split test leaves_when edge live) more h tell = told_plain stands _ _ tell
 
   behind_told : (i v : ℕ) → q ≤ i → AllTold i → (op : Option TraceOp) → slice_get t.ops i ≡ op → Told stands (known (at_place i op (above_of t i)) (Held v)) ((after setting (state_at setting t q s i) op).values v)

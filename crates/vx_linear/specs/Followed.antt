@@ -9,7 +9,7 @@ use Rattle.vx_base.specs.declared.arithmetic.Code.{Code}
 use Rattle.vx_base.specs.declared.arithmetic.Code.TheVariants.{Add, Sub, Shl, Mov, Mpylu, Mpyhs}
 use Rattle.vx_flow.specs.declared.graph.Operand.{Operand}
 use Rattle.vx_flow.specs.declared.graph.Operand.TheVariants.{Held, Number, Stack}
-use Rattle.vx_flow.specs.declared.graph.Op.TheVariants.{Compute, Place, Load, Store}
+use Rattle.vx_flow.specs.declared.graph.Op.TheVariants.{Compute, Place, Load, Store, PlaceIn}
 use Rattle.vx_flow.specs.declared.graph.Array.{Array}
 use Rattle.vx_flow.specs.declared.trace.TraceOp.{TraceOp}
 use Rattle.vx_flow.specs.declared.trace.TraceOp.TheVariants.{Plain, Split}
@@ -121,6 +121,7 @@ known (At i op ∷ above) (Held v) = if writes_it v op then made i op (known abo
 
 abbrev pub index_made : ℕ → TraceOp → List Above → Linear
 index_made i (Plain (Place v a index)) above = (known above index).linear
+index_made i (Plain (PlaceIn v a u index)) above = (known above index).linear
 index_made i op above = symbol (MadePlace i)
 
 abbrev pub index_of : List Above → Operand → Linear

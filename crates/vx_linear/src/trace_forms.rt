@@ -225,6 +225,9 @@ fn index_made(
         TraceOp::Plain(Op::Place { index, .. }) => {
             Ok(known(alloc, trace, passed, place, index)?.linear)
         }
+        TraceOp::Plain(Op::PlaceIn { index, .. }) => {
+            Ok(known(alloc, trace, passed, place, index)?.linear)
+        }
         _ => symbol(alloc, Symbol::MadePlace(place as u32)),
     }
 }
