@@ -7,7 +7,7 @@ use Rattle.std.proofs.lemmas.Bool.{false≢true}
 use Rattle.vx_base.specs.declared.arithmetic.Code.{Code}
 use Rattle.vx_flow.specs.declared.graph.Operand.{Operand}
 use Rattle.vx_flow.specs.declared.graph.Op.{Op}
-use Rattle.vx_flow.specs.declared.graph.Op.TheVariants.{Compute, Select, Place, Load, Store, More, Input, Text, Decimal, Across}
+use Rattle.vx_flow.specs.declared.graph.Op.TheVariants.{Compute, Select, Place, Load, Store, More, Input, Text, Decimal, Across, Base, PlaceIn}
 use Rattle.vx_flow.specs.Operands.{written_by}
 use Rattle.vx_flow.specs.Sound.{is_value}
 use Rattle.vx_claims.specs.declared.intervals.Interval.{Interval}
@@ -53,6 +53,8 @@ after_parts fs (Input v) = refl
 after_parts fs (Text n) = refl
 after_parts fs (Decimal x) = refl
 after_parts fs (Across v u) = refl
+after_parts fs (Base v a x) = refl
+after_parts fs (PlaceIn v a u i) = refl
 
 pub known_parts : (fs : List Fact) (xs : List Access) (op op' : Op) → newest most_equals (all_said fs xs op op' ++ without_written (written_by op') fs) ≡ after_known fs xs op op'
 known_parts fs xs op op' =

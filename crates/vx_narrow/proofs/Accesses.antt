@@ -1,5 +1,5 @@
 -- What is known of places and words of arrays holds behind each operation, and a load of a known word is a move.
-use Rattle.std.proofs.Common.{◌≡◌, ℕ, ◌==◌, Bool, true, false, cond, not, ◌&&◌, ◌||◌, ℤ, List, [], ◌∷◌, ◌++◌, length, slice_index_or, Option, Some, None, refl, sym, ap, ◌∙◌, subst}
+use Rattle.std.proofs.Common.{◌≡◌, ℕ, ◌==◌, Bool, true, false, cond, not, ◌&&◌, ◌||◌, ℤ, pos, List, [], ◌∷◌, ◌++◌, length, slice_index_or, Option, Some, None, refl, sym, ap, ◌∙◌, subst}
 use Rattle.std.specs.Fmt.{signed_decimal}
 use Rattle.std.proofs.lemmas.Bool.{eqb-true, eq-eqb}
 use Rattle.vx_base.specs.Arithmetic.{one_if}
@@ -7,9 +7,9 @@ use Rattle.vx_flow.specs.declared.graph.Operand.{Operand}
 use Rattle.vx_flow.specs.declared.graph.Operand.TheVariants.{Held, Number, Stack}
 use Rattle.vx_flow.specs.declared.graph.Array.{Array}
 use Rattle.vx_flow.specs.declared.graph.Op.{Op}
-use Rattle.vx_flow.specs.declared.graph.Op.TheVariants.{Compute, Select, Place, Load, Store, More, Input, Text, Decimal, Across}
+use Rattle.vx_flow.specs.declared.graph.Op.TheVariants.{Compute, Select, Place, Load, Store, More, Input, Text, Decimal, Across, Base, PlaceIn}
 use Rattle.vx_flow.specs.Apart.{array_in, are_apart, may_meet, StandApart}
-use Rattle.vx_flow.specs.Effects.{Content, State, Setting, held, computed, chosen, is_left, place_of, row_of, cell_in, cell_of, loaded, next_input, printed, text_at, with_value, with_cell, effect}
+use Rattle.vx_flow.specs.Effects.{Content, State, Setting, held, computed, chosen, is_left, place_of, place_by, row_of, cell_in, cell_of, loaded, next_input, printed, text_at, with_value, with_cell, effect}
 use Rattle.vx_flow.specs.Sound.{is_value}
 use Rattle.vx_claims.specs.declared.access.Access.{Access}
 use Rattle.vx_claims.specs.declared.access.Access.TheVariants.{Placed, Stored}
@@ -160,6 +160,8 @@ accessed_tell arrays setting apart s t (Text n) xs h e =
     subst (λ (r : State). AllTell setting r xs) (some_is u t e) (same_tell setting s u refl refl xs h)
 accessed_tell arrays setting apart s t (Decimal x) xs h e = printed_tell setting s t (held s x) xs h e
 accessed_tell arrays setting apart s t (Across v w) xs h e = written_tell setting s t v (s.values w) xs h e
+accessed_tell arrays setting apart s t (Base v a x) xs h e = written_tell setting s t v (Some (pos (setting.spot a))) xs h e
+accessed_tell arrays setting apart s t (PlaceIn v a w i) xs h e = written_tell setting s t v (place_by (s.values w) (held s i)) xs h e
 
 -- ---- loads
 

@@ -20,20 +20,20 @@ use Rattle.vx_narrow.specs.Checking.{has_numbers}
 use Rattle.vx_claims.specs.Accesses.{HoldsWord, AllTell, accessed, word_in, moved_or, with_words, place_known}
 use Rattle.vx_claims.specs.Forming.{formed, form, same_form, is_test, facts_if, said_unless, most_equals, newest, after_known}
 use Rattle.vx_narrow.proofs.Tests.{append_holds}
-use Rattle.vx_narrow.proofs.Operations.{Good, Keeps, OpFits, StateFit, numbers_fit, number_fits, op_good, held_is}
+use Rattle.vx_narrow.proofs.Operations.{Good, Keeps, SpotsFit, OpFits, StateFit, numbers_fit, number_fits, op_good, held_is}
 use Rattle.vx_narrow.proofs.Forms.{formed_same, formed_fits}
 use Rattle.vx_narrow.proofs.Accesses.{word_holds, accessed_tell, place_known_holds}
 
 -- it has no meaning, or the other one does the same and reads numbers of 32 bits
 abbrev pub Follows : Setting → State → Op → Op → Type 0
-Follows setting s op op' = (effect setting s op s ≡ None) ⊎ ((effect setting s op' s ≡ effect setting s op s) × OpFits s.values op')
+Follows setting s op op' = (effect setting s op s ≡ None) ⊎ ((effect setting s op' s ≡ effect setting s op s) × OpFits setting s.values op')
 
-words_follow : (setting : Setting) (s : State) (xs : List Access) (op : Op) → StateFit s → OpFits s.values op → AllTell setting s xs → Follows setting s op (with_words xs op)
+words_follow : (setting : Setting) (s : State) (xs : List Access) (op : Op) → StateFit s → OpFits setting s.values op → AllTell setting s xs → Follows setting s op (with_words xs op)
 words_follow setting s xs (Load v a p true) fit f h = inr (refl, tt)
 words_follow setting s xs (Load v a p false) fit f h = by (word_in xs a p) refl
   where
     at : (x : Operand) (o : Option ℕ) → HoldsWord setting s a p x → cell_of setting s a p ≡ o →
-        (loaded s v (row_of s (setting.spot a)) o false ≡ None) ⊎ ((Option.Some (with_value s v (held s x)) ≡ loaded s v (row_of s (setting.spot a)) o false) × OpFits s.values (Compute Mov v x (Number (pos 0))))
+        (loaded s v (row_of s (setting.spot a)) o false ≡ None) ⊎ ((Option.Some (with_value s v (held s x)) ≡ loaded s v (row_of s (setting.spot a)) o false) × OpFits setting s.values (Compute Mov v x (Number (pos 0))))
     at x None k q = inl refl
     at x (Some i) k q =
         let is : slice_index_or (row_of s (setting.spot a)) i None ≡ held s x = k i q in
@@ -44,9 +44,9 @@ words_follow setting s xs (Load v a p false) fit f h = by (word_in xs a p) refl
     by (Some x) e = at x (cell_of setting s a p) (word_holds setting s xs a p x h e) refl
 words_follow setting s xs op fit f h = inr (refl, f)
 
-pub form_follows : (setting : Setting) (s : State) (fs : List Fact) (xs : List Access) (op : Op) → has_numbers op ≡ true → Good fs s → AllTell setting s xs → Follows setting s op (form fs xs op)
-form_follows setting s fs xs op n g h =
-    by (words_follow setting s xs (formed fs op) g.fits (formed_fits s.values fs op g.fits.values g.facts (numbers_fit s.values op g.fits.values n)) h)
+pub form_follows : (setting : Setting) (s : State) (fs : List Fact) (xs : List Access) (op : Op) → SpotsFit setting → has_numbers op ≡ true → Good fs s → AllTell setting s xs → Follows setting s op (form fs xs op)
+form_follows setting s fs xs op spots n g h =
+    by (words_follow setting s xs (formed fs op) g.fits (formed_fits s.values setting fs op g.fits.values g.facts (numbers_fit setting s.values op spots g.fits.values n)) h)
   where
     same : effect setting s (formed fs op) s ≡ effect setting s op s
     same = formed_same setting s fs op g.facts
@@ -115,9 +115,9 @@ abbrev pub KeepsKnown : Setting → List Fact → List Access → Option State �
 KeepsKnown setting fs xs None = Unit {0}
 KeepsKnown setting fs xs (Some t) = Known setting fs xs t
 
-pub form_known : (arrays : List Array) (setting : Setting) → StandApart arrays setting.spot → (s : State) (fs : List Fact) (xs : List Access) (op : Op) → has_numbers op ≡ true → Known setting fs xs s →
+pub form_known : (arrays : List Array) (setting : Setting) → StandApart arrays setting.spot → SpotsFit setting → (s : State) (fs : List Fact) (xs : List Access) (op : Op) → has_numbers op ≡ true → Known setting fs xs s →
     KeepsKnown setting (after_known fs xs op (form fs xs op)) (accessed arrays xs (form fs xs op)) (effect setting s op s)
-form_known arrays setting apart s fs xs op n k = by (form_follows setting s fs xs op n k.good k.tell)
+form_known arrays setting apart spots s fs xs op n k = by (form_follows setting s fs xs op spots n k.good k.tell)
   where
     op' : Op
     op' = form fs xs op
@@ -137,7 +137,7 @@ form_known arrays setting apart s fs xs op n k = by (form_follows setting s fs x
     by : Follows setting s op op' → KeepsKnown setting (after_known fs xs op op') (accessed arrays xs op') (effect setting s op s)
     by (inl e) = subst (KeepsKnown setting (after_known fs xs op op') (accessed arrays xs op')) (sym e) tt
     by (inr e) =
-        let old : Keeps (after fs op) (effect setting s op s) = op_good setting s fs op (numbers_fit s.values op k.good.fits.values n) k.good in
+        let old : Keeps (after fs op) (effect setting s op s) = op_good setting s fs op (numbers_fit setting s.values op spots k.good.fits.values n) k.good in
         subst (KeepsKnown setting (after_known fs xs op op') (accessed arrays xs op')) e.0
         (step (effect setting s op' s) refl (op_good setting s fs op' e.1 k.good) (subst (Keeps (after fs op)) (sym e.0) old))
 

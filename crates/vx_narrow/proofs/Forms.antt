@@ -6,8 +6,8 @@ use Rattle.vx_base.specs.declared.arithmetic.Code.TheVariants.{Mov}
 use Rattle.vx_flow.specs.declared.graph.Operand.{Operand}
 use Rattle.vx_flow.specs.declared.graph.Operand.TheVariants.{Held, Number, Stack}
 use Rattle.vx_flow.specs.declared.graph.Op.{Op}
-use Rattle.vx_flow.specs.declared.graph.Op.TheVariants.{Compute, Select, Place, Load, Store, More, Input, Text, Decimal, Across}
-use Rattle.vx_flow.specs.Effects.{Content, State, Setting, held, computed, chosen, place_of, row_of, cell_in, loaded, stored, printed, with_value, effect}
+use Rattle.vx_flow.specs.declared.graph.Op.TheVariants.{Compute, Select, Place, Load, Store, More, Input, Text, Decimal, Across, Base, PlaceIn}
+use Rattle.vx_flow.specs.Effects.{Content, State, Setting, held, computed, chosen, place_of, place_by, row_of, cell_in, loaded, stored, printed, with_value, effect}
 use Rattle.vx_claims.specs.declared.fact.Fact.{Fact}
 use Rattle.vx_claims.specs.declared.fact.Fact.TheVariants.{Between, Congruent, Equals, Never}
 use Rattle.vx_claims.specs.Facts.{full, Within, content, Holds, AllHold, found}
@@ -43,25 +43,27 @@ module _ (values : ℕ → Content) where
   read_fits : (fs : List Fact) (x : Operand) → AllHold values fs → Within full (content values x) → Within full (content values (read fs x))
   read_fits fs x h w = subst (Within full) (sym (read_holds fs x h)) w
 
-  computed_fit : (t : Bool) (code : Code) (v : ℕ) (a b : Operand) (o : Option ℕ) → Fit values → Within full (content values a) → Within full (content values b) → OpFits values (read_if t code v a b o)
-  computed_fit true code v a b (Some w) fit p q = (fit w, number_fits (pos 0) refl)
-  computed_fit true code v a b None fit p q = (p, q)
-  computed_fit false code v a b o fit p q = (p, q)
+  computed_fit : (setting : Setting) (t : Bool) (code : Code) (v : ℕ) (a b : Operand) (o : Option ℕ) → Fit values → Within full (content values a) → Within full (content values b) → OpFits setting values (read_if t code v a b o)
+  computed_fit setting true code v a b (Some w) fit p q = (fit w, number_fits (pos 0) refl)
+  computed_fit setting true code v a b None fit p q = (p, q)
+  computed_fit setting false code v a b o fit p q = (p, q)
 
-  pub formed_fits : (fs : List Fact) (op : Op) → Fit values → AllHold values fs → OpFits values op → OpFits values (formed fs op)
-  formed_fits fs (Compute code v a b) fit h f =
+  pub formed_fits : (setting : Setting) (fs : List Fact) (op : Op) → Fit values → AllHold values fs → OpFits setting values op → OpFits setting values (formed fs op)
+  formed_fits setting fs (Compute code v a b) fit h f =
       let c : Computation = based fs code (read fs a) (read fs b) in
       let fits : BothFit values c = based_fits values fit fs code (read fs a) (read fs b) (read_fits fs a h f.0, read_fits fs b h f.1) in
-      computed_fit (is_readable c.code) c.code v c.left c.right (found fs c.code c.left c.right) fit fits.0 fits.1
-  formed_fits fs (Select v p a b) fit h f = (read_fits fs a h f.0, read_fits fs b h f.1)
-  formed_fits fs (Place v a i) fit h f = tt
-  formed_fits fs (Load v a p d) fit h f = tt
-  formed_fits fs (Store a p x) fit h f = read_fits fs x h f
-  formed_fits fs (More v) fit h f = tt
-  formed_fits fs (Input v) fit h f = tt
-  formed_fits fs (Text n) fit h f = tt
-  formed_fits fs (Decimal x) fit h f = tt
-  formed_fits fs (Across v u) fit h f = tt
+      computed_fit setting (is_readable c.code) c.code v c.left c.right (found fs c.code c.left c.right) fit fits.0 fits.1
+  formed_fits setting fs (Select v p a b) fit h f = (read_fits fs a h f.0, read_fits fs b h f.1)
+  formed_fits setting fs (Place v a i) fit h f = tt
+  formed_fits setting fs (Load v a p d) fit h f = tt
+  formed_fits setting fs (Store a p x) fit h f = read_fits fs x h f
+  formed_fits setting fs (More v) fit h f = tt
+  formed_fits setting fs (Input v) fit h f = tt
+  formed_fits setting fs (Text n) fit h f = tt
+  formed_fits setting fs (Decimal x) fit h f = tt
+  formed_fits setting fs (Across v u) fit h f = tt
+  formed_fits setting fs (Base v a x) fit h f = f
+  formed_fits setting fs (PlaceIn v a u i) fit h f = tt
 
 held_read : (s : State) (fs : List Fact) (x : Operand) → AllHold s.values fs → held s (read fs x) ≡ held s x
 held_read s fs x h = held_is s (read fs x) ∙ read_holds s.values fs x h ∙ sym (held_is s x)
@@ -102,3 +104,5 @@ formed_same setting s fs (Input v) h = refl
 formed_same setting s fs (Text n) h = refl
 formed_same setting s fs (Decimal x) h = ap (λ c. printed s s.out c) (held_read s fs x h)
 formed_same setting s fs (Across v u) h = refl
+formed_same setting s fs (Base v a x) h = refl
+formed_same setting s fs (PlaceIn v a u i) h = ap (λ c. Some (with_value s v (place_by (s.values u) c))) (held_read s fs i h)

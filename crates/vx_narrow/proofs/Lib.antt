@@ -17,7 +17,7 @@ pub mod Accesses
 pub mod SumForms
 pub mod Forms
 pub mod Behind
-pub mod Sizes
+pub mod Spots
 pub mod RunFacts
 mod Turns
 mod Entries

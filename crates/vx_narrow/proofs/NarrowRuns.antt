@@ -11,7 +11,7 @@ use Rattle.vx_flow.specs.declared.graph.Block.{Block}
 use Rattle.vx_flow.specs.declared.graph.Graph.{Graph}
 use Rattle.vx_flow.specs.declared.graph.Flow.{Flow}
 use Rattle.vx_flow.specs.Effects.{State, Setting}
-use Rattle.vx_flow.specs.Meaning.{Hop, Arrives, Calls, Leaves, Stops, Wrong, hop_of, block_hop, Body, Program, Frame, Active, deepest, enters, waits, after_hop, body_hop, hop, next, body_of, program_of, setting_with, globals_at_start, entered_or, start}
+use Rattle.vx_flow.specs.Meaning.{Hop, Arrives, Calls, Leaves, Stops, Wrong, hop_of, block_hop, Body, Program, Frame, Active, deepest, spots_for, enters_with, enters, waits, after_hop, body_hop, hop, next, body_of, program_of, setting_with, globals_at_start, entered_or, start}
 use Rattle.vx_claims.specs.declared.claim.Claim.{Claim}
 use Rattle.vx_claims.specs.declared.intervals.Interval.{Interval}
 use Rattle.vx_claims.specs.declared.fact.Fact.{Fact}
@@ -23,6 +23,7 @@ use Rattle.vx_narrow.specs.Rewriting.{split_by, narrowed_exit, narrowed_block, n
 use Rattle.vx_narrow.specs.Shortening.{improved_all}
 use Rattle.vx_narrow.proofs.Ranges.{and_one}
 use Rattle.vx_narrow.proofs.RunFacts.{ActiveGood, next_good, start_good, reached_good}
+use Rattle.vx_narrow.proofs.Spots.{roomy_fits}
 use Rattle.vx_narrow.proofs.Narrows.{Refines, block_refines, get_block, get_function, goes}
 
 module _ (flow : Flow) (given : ℕ → List Interval) (claims : ℕ → ℕ → Claim) (checked : Checked flow given claims) where
@@ -48,7 +49,7 @@ module _ (flow : Flow) (given : ℕ → List Interval) (claims : ℕ → ℕ →
           Refines (hop_of (setting_with old r.passed r.base) r.block o r.state) (hop_of (setting_with old r.passed r.base) r.block (option_map (narrowed_block g.arrays (claims r.function) r.block) o) r.state)
       inner g e None q = inl refl
       inner g e (Some block) q =
-          block_refines g.arrays (claims r.function) (setting_with old r.passed r.base) (a.sized.apart g e) r.block block r.state a.known
+          block_refines g.arrays (claims r.function) (setting_with old r.passed r.base) (a.sized.apart g e) (roomy_fits flow checked.first checked.few r a.roomy g e) r.block block r.state a.known
           (and_one (list_all has_numbers block.ops) (is_left_checked given (claims r.function) (after_all g.arrays (claims r.function r.block) block.ops) (accessed_all g.arrays (claims r.function r.block) block.ops) block.exit) (checked.blocks r.function r.block g block e q))
 
       block_is : (g : Graph) → slice_get (narrowed_from g.arrays (claims r.function) 0 g.blocks) r.block ≡ option_map (narrowed_block g.arrays (claims r.function) r.block) (slice_get g.blocks r.block)
@@ -63,7 +64,11 @@ module _ (flow : Flow) (given : ℕ → List Interval) (claims : ℕ → ℕ →
 
   enters_alike : (k : ℕ → Claim) (g : ℕ) (o : Option Graph) (ns : List ℤ) (s : State) (fs : List Frame) → enters g (as_body (option_map (narrowed_graph k) o)) ns s fs ≡ enters g (as_body o) ns s fs
   enters_alike k g None ns s fs = refl
-  enters_alike k g (Some h) ns s fs = refl
+  enters_alike k g (Some h) ns s fs = by (spots_for (as_body (Some h)) ns s)
+    where
+      by : (spots : Option (List (Option ℕ))) → enters_with g (as_body (Some (narrowed_graph k h))) ns s fs spots ≡ enters_with g (as_body (Some h)) ns s fs spots
+      by None = refl
+      by (Some passed) = refl
 
   enters_same : (g : ℕ) (ns : List ℤ) (s : State) (fs : List Frame) → enters g (new.body g) ns s fs ≡ enters g (old.body g) ns s fs
   enters_same g ns s fs = ap (λ o. enters g (as_body o) ns s fs) (function_is g) ∙ enters_alike (claims g) g (slice_get flow.functions g) ns s fs
@@ -133,6 +138,6 @@ decided_goes flow given claims checked input numbers n r l g block p c d answer 
     let a = reached_good flow given claims checked input numbers n r l in
     let setting = setting_with (program_of flow) r.passed r.base in
     let fs = after_all g.arrays (claims r.function r.block) block.ops in
-    let k = block_refines g.arrays (claims r.function) setting (a.sized.apart g e) r.block block r.state a.known (and_one (list_all has_numbers block.ops) (is_left_checked given (claims r.function) fs (accessed_all g.arrays (claims r.function r.block) block.ops) block.exit) (checked.blocks r.function r.block g block e q)) in
+    let k = block_refines g.arrays (claims r.function) setting (a.sized.apart g e) (roomy_fits flow checked.first checked.few r a.roomy g e) r.block block r.state a.known (and_one (list_all has_numbers block.ops) (is_left_checked given (claims r.function) fs (accessed_all g.arrays (claims r.function r.block) block.ops) block.exit) (checked.blocks r.function r.block g block e q)) in
     subst (GoesTo r.block (side_of answer c d)) (sym (hop_by flow given claims checked r g block e q))
     (narrow_goes flow given claims checked fs setting r.block p c d answer block (improved_all g.arrays (claims r.function r.block) block.ops) r.state (hop_of setting r.block (Some block) r.state) x w k)

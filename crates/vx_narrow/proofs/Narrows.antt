@@ -24,7 +24,7 @@ use Rattle.vx_narrow.specs.Rewriting.{split_by, narrowed_exit, narrowed_block, n
 use Rattle.vx_narrow.specs.Shortening.{shortened, improved, improved_from}
 use Rattle.vx_narrow.proofs.Ranges.{and_one, and_two}
 use Rattle.vx_narrow.proofs.Tests.{decided_holds}
-use Rattle.vx_narrow.proofs.Operations.{Good}
+use Rattle.vx_narrow.proofs.Operations.{Good, SpotsFit}
 use Rattle.vx_narrow.proofs.Behind.{Follows, Known, KeepsKnown, Claimed, form_follows, form_known}
 use Rattle.vx_narrow.proofs.Products.{shortened_same}
 use Rattle.vx_narrow.proofs.NearPlaces.{placed_same}
@@ -59,28 +59,28 @@ then_refines setting fs xs (Some t) o' f f' (inr e) k h = subst (λ o. Refines (
 
 -- ---- operations
 
-improved_follows : (arrays : List Array) (block : List Op) (setting : Setting) (s : State) (fs : List Fact) (xs : List Access) (op : Op) → has_numbers op ≡ true → Known setting fs xs s →
+improved_follows : (arrays : List Array) (block : List Op) (setting : Setting) (s : State) (fs : List Fact) (xs : List Access) (op : Op) → SpotsFit setting → has_numbers op ≡ true → Known setting fs xs s →
     (effect setting s op s ≡ None) ⊎ (effect setting s (improved arrays block fs xs op) s ≡ effect setting s op s)
-improved_follows arrays block setting s fs xs op n k = by (form_follows setting s fs xs op n k.good k.tell)
+improved_follows arrays block setting s fs xs op spots n k = by (form_follows setting s fs xs op spots n k.good k.tell)
   where
     by : Follows setting s op (form fs xs op) → (effect setting s op s ≡ None) ⊎ (effect setting s (improved arrays block fs xs op) s ≡ effect setting s op s)
     by (inl e) = inl e
     by (inr e) = inr (placed_same setting s arrays block fs xs (shortened fs (form fs xs op)) k.good.facts k.tell ∙ shortened_same setting s fs k.good (form fs xs op) ∙ e.0)
 
-ops_refine : (arrays : List Array) (whole : List Op) (setting : Setting) → StandApart arrays setting.spot → (b : ℕ) (ops : List Op) (exit : Exit) (fs : List Fact) (xs : List Access) (s : State) → Known setting fs xs s → list_all has_numbers ops ≡ true →
+ops_refine : (arrays : List Array) (whole : List Op) (setting : Setting) → StandApart arrays setting.spot → SpotsFit setting → (b : ℕ) (ops : List Op) (exit : Exit) (fs : List Fact) (xs : List Access) (s : State) → Known setting fs xs s → list_all has_numbers ops ≡ true →
     Refines (block_hop setting b ops exit s) (block_hop setting b (improved_from arrays whole fs xs ops) (narrowed_exit (after_from arrays fs xs ops) exit) s)
-ops_refine arrays whole setting apart b [] exit fs xs s k n = exit_refines b exit s fs k.good
-ops_refine arrays whole setting apart b (op ∷ ops) exit fs xs s k n =
+ops_refine arrays whole setting apart spots b [] exit fs xs s k n = exit_refines b exit s fs k.good
+ops_refine arrays whole setting apart spots b (op ∷ ops) exit fs xs s k n =
     let fs' = after_known fs xs op (form fs xs op) in
     let xs' = accessed arrays xs (form fs xs op) in
     let one = and_one (has_numbers op) (list_all has_numbers ops) n in
     then_refines setting fs' xs' (effect setting s op s) (effect setting s (improved arrays whole fs xs op) s) (block_hop setting b ops exit) (block_hop setting b (improved_from arrays whole fs' xs' ops) (narrowed_exit (after_from arrays fs' xs' ops) exit))
-    (improved_follows arrays whole setting s fs xs op one k) (form_known arrays setting apart s fs xs op one k)
-    (λ t h. ops_refine arrays whole setting apart b ops exit fs' xs' t h (and_two (has_numbers op) (list_all has_numbers ops) n))
+    (improved_follows arrays whole setting s fs xs op spots one k) (form_known arrays setting apart spots s fs xs op one k)
+    (λ t h. ops_refine arrays whole setting apart spots b ops exit fs' xs' t h (and_two (has_numbers op) (list_all has_numbers ops) n))
 
-pub block_refines : (arrays : List Array) (claims : ℕ → Claim) (setting : Setting) → StandApart arrays setting.spot → (b : ℕ) (block : Block) (s : State) → Claimed setting (claims b) s → list_all has_numbers block.ops ≡ true →
+pub block_refines : (arrays : List Array) (claims : ℕ → Claim) (setting : Setting) → StandApart arrays setting.spot → SpotsFit setting → (b : ℕ) (block : Block) (s : State) → Claimed setting (claims b) s → list_all has_numbers block.ops ≡ true →
     Refines (hop_of setting b (Some block) s) (hop_of setting b (Some (narrowed_block arrays claims b block)) s)
-block_refines arrays claims setting apart b block s k n = ops_refine arrays block.ops setting apart b block.ops block.exit (claims b).facts (claims b).accesses s k n
+block_refines arrays claims setting apart spots b block s k n = ops_refine arrays block.ops setting apart spots b block.ops block.exit (claims b).facts (claims b).accesses s k n
 
 -- ---- by number
 

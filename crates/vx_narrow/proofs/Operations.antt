@@ -1,21 +1,21 @@
 -- Operations: facts carried through one hold behind it, and numbers of 32 bits stay such.
-use Rattle.std.proofs.Common.{◌≡◌, ℕ, zero, suc, ◌==◌, Bool, true, false, cond, ◌||◌, ℤ, pos, ◌*ℤ◌, int_le, List, [], ◌∷◌, ◌++◌, take, slice_index_or, slice_set, Option, Some, None, refl, sym, ap, ◌∙◌, subst}
-use Rattle.std.proofs.lemmas.Bool.{eq-eqb}
+use Rattle.std.proofs.Common.{◌≡◌, ℕ, zero, suc, ◌<◌, ◌==◌, Bool, true, false, cond, ◌||◌, ℤ, pos, ◌*ℤ◌, int_le, List, [], ◌∷◌, ◌++◌, take, slice_index_or, slice_set, Option, Some, None, refl, sym, ap, ◌∙◌, subst}
+use Rattle.std.proofs.lemmas.Bool.{eq-eqb, ltb-true}
 use Rattle.vx_base.specs.Arithmetic.{wrap, product_of, one_if}
 use Rattle.vx_base.specs.declared.arithmetic.Code.{Code}
 use Rattle.vx_base.proofs.WrapLaws.{wrap_fits}
 use Rattle.vx_flow.specs.declared.graph.Operand.{Operand}
 use Rattle.vx_flow.specs.declared.graph.Operand.TheVariants.{Held, Number, Stack}
 use Rattle.vx_flow.specs.declared.graph.Op.{Op}
-use Rattle.vx_flow.specs.declared.graph.Op.TheVariants.{Compute, Select, Place, Load, Store, More, Input, Text, Decimal, Across}
-use Rattle.vx_flow.specs.Effects.{Content, State, Setting, held, computed, chosen, is_one, is_left, place_of, row_of, cell_of, loaded, stored, next_input, printed, with_value, effect}
+use Rattle.vx_flow.specs.declared.graph.Op.TheVariants.{Compute, Select, Place, Load, Store, More, Input, Text, Decimal, Across, Base, PlaceIn}
+use Rattle.vx_flow.specs.Effects.{Content, State, Setting, held, computed, chosen, is_one, is_left, place_of, place_by, row_of, cell_of, loaded, stored, next_input, printed, with_value, effect}
 use Rattle.vx_flow.specs.Sound.{is_value}
 use Rattle.vx_claims.specs.declared.intervals.Interval.{Interval}
 use Rattle.vx_claims.specs.declared.residues.Residue.{Residue}
 use Rattle.vx_claims.specs.declared.fact.Fact.{Fact}
 use Rattle.vx_claims.specs.declared.fact.Fact.TheVariants.{Between, Congruent, Equals, Never}
 use Rattle.vx_claims.specs.Facts.{least, greatest, full, Within, content, Holds, AllHold, range_of, times_if, bit, computed_within, computed_residue, names, kept_if, without, equals_if, is_full, is_single, between_unless, lies_in, congruent_unless, agrees_in, stands_in, after}
-use Rattle.vx_narrow.specs.Checking.{is_number, has_number, has_numbers}
+use Rattle.vx_narrow.specs.Checking.{is_number, most_arrays, has_number, has_numbers}
 use Rattle.vx_narrow.proofs.Ranges.{number_within, and_one, and_two, le_holds, Fit, computed_fits, range_of_holds, bit_holds, times_holds, computed_holds}
 use Rattle.vx_claims.specs.Residues.{Agrees}
 use Rattle.vx_narrow.proofs.Residues.{computed_residue_holds}
@@ -193,6 +193,10 @@ place_fits : (x : Content) → Within full (place_of x)
 place_fits None = tt
 place_fits (Some n) = product_fits (pos 4) n
 
+place_by_fits : (b x : Content) → Within full (place_by b x)
+place_by_fits None x = tt
+place_by_fits (Some k) x = place_fits x
+
 chosen_fits : (p a b : Content) → Within full a → Within full b → Within full (chosen p a b)
 chosen_fits None a b f g = tt
 chosen_fits (Some z) a b f g = by (is_one z)
@@ -227,32 +231,40 @@ printed_good : (s : State) (x : Content) (fs : List Fact) → Good fs s → Keep
 printed_good s None fs g = tt
 printed_good s (Some n) fs g = same_values s _ fs g refl refl refl
 
--- what the operation reads has 32 bits
-abbrev pub OpFits : (ℕ → Content) → Op → Type 0
-OpFits values (Compute code v a b) = Within full (content values a) × Within full (content values b)
-OpFits values (Select v p a b) = Within full (content values a) × Within full (content values b)
-OpFits values (Place v a i) = Unit {0}
-OpFits values (Load v a p d) = Unit {0}
-OpFits values (Store a p x) = Within full (content values x)
-OpFits values (More v) = Unit {0}
-OpFits values (Input v) = Unit {0}
-OpFits values (Text n) = Unit {0}
-OpFits values (Decimal x) = Unit {0}
-OpFits values (Across v u) = Unit {0}
+-- where each of so many arrays stands is a number of 32 bits
+abbrev pub SpotsFit : Setting → Type 0
+SpotsFit setting = (a : ℕ) → a < most_arrays → Within full (Some (pos (setting.spot a)))
 
-pub numbers_fit : (values : ℕ → Content) (op : Op) → Fit values → has_numbers op ≡ true → OpFits values op
-numbers_fit values (Compute code v a b) fit e = (content_fits values a fit (and_one (has_number a) (has_number b) e), content_fits values b fit (and_two (has_number a) (has_number b) e))
-numbers_fit values (Select v p a b) fit e = (content_fits values a fit (and_one (has_number a) (has_number b) e), content_fits values b fit (and_two (has_number a) (has_number b) e))
-numbers_fit values (Place v a i) fit e = tt
-numbers_fit values (Load v a p d) fit e = tt
-numbers_fit values (Store a p x) fit e = content_fits values x fit e
-numbers_fit values (More v) fit e = tt
-numbers_fit values (Input v) fit e = tt
-numbers_fit values (Text n) fit e = tt
-numbers_fit values (Decimal x) fit e = tt
-numbers_fit values (Across v u) fit e = tt
+-- what the operation reads has 32 bits, and where an array stands whose base it is
+abbrev pub OpFits : Setting → (ℕ → Content) → Op → Type 0
+OpFits setting values (Compute code v a b) = Within full (content values a) × Within full (content values b)
+OpFits setting values (Select v p a b) = Within full (content values a) × Within full (content values b)
+OpFits setting values (Place v a i) = Unit {0}
+OpFits setting values (Load v a p d) = Unit {0}
+OpFits setting values (Store a p x) = Within full (content values x)
+OpFits setting values (More v) = Unit {0}
+OpFits setting values (Input v) = Unit {0}
+OpFits setting values (Text n) = Unit {0}
+OpFits setting values (Decimal x) = Unit {0}
+OpFits setting values (Across v u) = Unit {0}
+OpFits setting values (Base v a x) = Within full (Some (pos (setting.spot a)))
+OpFits setting values (PlaceIn v a u i) = Unit {0}
 
-pub op_good : (setting : Setting) (s : State) (fs : List Fact) (op : Op) → OpFits s.values op → Good fs s → Keeps (after fs op) (effect setting s op s)
+pub numbers_fit : (setting : Setting) (values : ℕ → Content) (op : Op) → SpotsFit setting → Fit values → has_numbers op ≡ true → OpFits setting values op
+numbers_fit setting values (Compute code v a b) spots fit e = (content_fits values a fit (and_one (has_number a) (has_number b) e), content_fits values b fit (and_two (has_number a) (has_number b) e))
+numbers_fit setting values (Select v p a b) spots fit e = (content_fits values a fit (and_one (has_number a) (has_number b) e), content_fits values b fit (and_two (has_number a) (has_number b) e))
+numbers_fit setting values (Place v a i) spots fit e = tt
+numbers_fit setting values (Load v a p d) spots fit e = tt
+numbers_fit setting values (Store a p x) spots fit e = content_fits values x fit e
+numbers_fit setting values (More v) spots fit e = tt
+numbers_fit setting values (Input v) spots fit e = tt
+numbers_fit setting values (Text n) spots fit e = tt
+numbers_fit setting values (Decimal x) spots fit e = tt
+numbers_fit setting values (Across v u) spots fit e = tt
+numbers_fit setting values (Base v a x) spots fit e = spots a (ltb-true a most_arrays e)
+numbers_fit setting values (PlaceIn v a u i) spots fit e = tt
+
+pub op_good : (setting : Setting) (s : State) (fs : List Fact) (op : Op) → OpFits setting s.values op → Good fs s → Keeps (after fs op) (effect setting s op s)
 op_good setting s fs (Compute code v a b) e g =
     let is : computed code (held s a) (held s b) ≡ computed code (content s.values a) (content s.values b) = ap (λ c. computed code c (held s b)) (held_is s a) ∙ ap (λ c. computed code (content s.values a) c) (held_is s b) in
     writes_good s v (computed code (held s a) (held s b)) _ g.fits (computed_fits code (held s a) (held s b) (subst (Within full) (sym (held_is s a)) e.0) (subst (Within full) (sym (held_is s b)) e.1))
@@ -276,3 +288,5 @@ op_good setting s fs (Input v) e g = input_good s v s.input fs g g.fits.input
 op_good setting s fs (Text n) e g = same_values s _ fs g refl refl refl
 op_good setting s fs (Decimal x) e g = printed_good s (held s x) fs g
 op_good setting s fs (Across v u) e g = unknown_good s v _ fs g (g.fits.values u)
+op_good setting s fs (Base v a x) e g = unknown_good s v (Some (pos (setting.spot a))) fs g e
+op_good setting s fs (PlaceIn v a u i) e g = unknown_good s v (place_by (s.values u) (held s i)) fs g (place_by_fits (s.values u) (held s i))

@@ -17,7 +17,7 @@ use Rattle.vx_flow.specs.declared.graph.Global.{Global}
 use Rattle.vx_flow.specs.declared.graph.Flow.{Flow}
 use Rattle.vx_flow.specs.Apart.{StandApart}
 use Rattle.vx_flow.specs.Effects.{Content, State, Setting, IsIn, held, is_one, effect}
-use Rattle.vx_flow.specs.Meaning.{Hop, Arrives, Calls, Leaves, Stops, Wrong, known, with_front, by_test, calls, leaves, leave, and_then, block_hop, hop_of, Body, Frame, Active, deepest, undefined, at_entry, entered, enters, with_result, returned, waits, after_hop, body_hop, hop, next, body_of, program_of, setting_with, setting_of, words_at_start, globals_at_start, entered_or, start}
+use Rattle.vx_flow.specs.Meaning.{Hop, Arrives, Calls, Leaves, Stops, Wrong, known, with_front, by_test, calls, leaves, leave, and_then, block_hop, hop_of, Body, Frame, Active, deepest, undefined, at_entry, entered, spots_for, enters_with, enters, with_result, returned, waits, after_hop, body_hop, hop, next, body_of, program_of, setting_with, setting_of, words_at_start, globals_at_start, entered_or, start}
 use Rattle.vx_claims.specs.declared.claim.Claim.{Claim}
 use Rattle.vx_claims.specs.declared.intervals.Interval.{Interval}
 use Rattle.vx_claims.specs.declared.fact.Fact.{Fact}
@@ -32,10 +32,11 @@ use Rattle.vx_narrow.proofs.Congruences.{implied_holds}
 use Rattle.vx_narrow.proofs.Ranges.{number_within, and_one, and_two, le_holds, Fit, range_of_holds, residue_of_holds}
 use Rattle.vx_narrow.proofs.Equal.{has_holds}
 use Rattle.vx_narrow.proofs.Tests.{side_holds, decided_side}
-use Rattle.vx_narrow.proofs.Operations.{number_fits, held_is, held_fits, RowsFit, NumbersFit, StateFit, rows_append, rows_take, without_holds, lies_hold, written_fits, Good}
+use Rattle.vx_narrow.proofs.Operations.{SpotsFit, number_fits, held_is, held_fits, RowsFit, NumbersFit, StateFit, rows_append, rows_take, without_holds, lies_hold, written_fits, Good}
 use Rattle.vx_narrow.proofs.Behind.{Known, KeepsKnown, Claimed, form_known}
 use Rattle.vx_narrow.proofs.Accesses.{tell_holds}
-use Rattle.vx_narrow.proofs.Sizes.{Sized, next_sized, start_sized}
+use Rattle.vx_shape.proofs.Sizes.{Sized, next_sized, start_sized}
+use Rattle.vx_narrow.proofs.Spots.{Roomy, next_roomy, start_roomy, roomy_fits}
 
 -- ---- claims
 
@@ -228,20 +229,20 @@ then_good : (given : ℕ → List Interval) (claims : ℕ → Claim) (setting : 
 then_good given claims setting fs xs None f k h = tt
 then_good given claims setting fs xs (Some t) f k h = h t k
 
-ops_good : (arrays : List Array) (given : ℕ → List Interval) (claims : ℕ → Claim) (setting : Setting) → StandApart arrays setting.spot → (b : ℕ) (ops : List Op) (exit : Exit) (fs : List Fact) (xs : List Access) (s : State) → Known setting fs xs s → list_all has_numbers ops ≡ true →
+ops_good : (arrays : List Array) (given : ℕ → List Interval) (claims : ℕ → Claim) (setting : Setting) → StandApart arrays setting.spot → SpotsFit setting → (b : ℕ) (ops : List Op) (exit : Exit) (fs : List Fact) (xs : List Access) (s : State) → Known setting fs xs s → list_all has_numbers ops ≡ true →
     is_left_checked given claims (after_from arrays fs xs ops) (accessed_from arrays fs xs ops) exit ≡ true → HopGood given claims setting (block_hop setting b ops exit s)
-ops_good arrays given claims setting apart b [] exit fs xs s k n e = leave_good given claims setting b exit s fs xs k.good k.tell (second_of (is_never fs) (is_exit_checked given claims fs xs exit) (never_holds s.values fs k.good.facts) e)
-ops_good arrays given claims setting apart b (op ∷ ops) exit fs xs s k n e =
+ops_good arrays given claims setting apart spots b [] exit fs xs s k n e = leave_good given claims setting b exit s fs xs k.good k.tell (second_of (is_never fs) (is_exit_checked given claims fs xs exit) (never_holds s.values fs k.good.facts) e)
+ops_good arrays given claims setting apart spots b (op ∷ ops) exit fs xs s k n e =
     let fs' = after_known fs xs op (form fs xs op) in
     let xs' = accessed arrays xs (form fs xs op) in
-    then_good given claims setting fs' xs' (effect setting s op s) (block_hop setting b ops exit) (form_known arrays setting apart s fs xs op (and_one (has_numbers op) (list_all has_numbers ops) n) k)
-    (λ t h. ops_good arrays given claims setting apart b ops exit fs' xs' t h (and_two (has_numbers op) (list_all has_numbers ops) n) e)
+    then_good given claims setting fs' xs' (effect setting s op s) (block_hop setting b ops exit) (form_known arrays setting apart spots s fs xs op (and_one (has_numbers op) (list_all has_numbers ops) n) k)
+    (λ t h. ops_good arrays given claims setting apart spots b ops exit fs' xs' t h (and_two (has_numbers op) (list_all has_numbers ops) n) e)
 
-block_good : (arrays : List Array) (given : ℕ → List Interval) (claims : ℕ → Claim) (setting : Setting) → StandApart arrays setting.spot → (b : ℕ) (block : Block) (s : State) → Claimed setting (claims b) s → is_block_checked arrays given claims b block ≡ true → HopGood given claims setting (hop_of setting b (Some block) s)
-block_good arrays given claims setting apart b block s k e =
+block_good : (arrays : List Array) (given : ℕ → List Interval) (claims : ℕ → Claim) (setting : Setting) → StandApart arrays setting.spot → SpotsFit setting → (b : ℕ) (block : Block) (s : State) → Claimed setting (claims b) s → is_block_checked arrays given claims b block ≡ true → HopGood given claims setting (hop_of setting b (Some block) s)
+block_good arrays given claims setting apart spots b block s k e =
     let one = list_all has_numbers block.ops in
     let two = is_left_checked given claims (after_all arrays (claims b) block.ops) (accessed_all arrays (claims b) block.ops) block.exit in
-    ops_good arrays given claims setting apart b block.ops block.exit (claims b).facts (claims b).accesses s k (and_one one two e) (and_two one two e)
+    ops_good arrays given claims setting apart spots b block.ops block.exit (claims b).facts (claims b).accesses s k (and_one one two e) (and_two one two e)
 
 -- ---- programs
 
@@ -257,6 +258,7 @@ module _ (flow : Flow) (given : ℕ → List Interval) (claims : ℕ → ℕ →
     pub known : ClaimedAt r
     pub frames : FramesGood r.waiting
     pub sized : Sized flow r
+    pub roomy : Roomy flow checked.first checked.few r
 
   record StandsGood (r : Active) : Type 0 where
     known : ClaimedAt r
@@ -271,7 +273,7 @@ module _ (flow : Flow) (given : ℕ → List Interval) (claims : ℕ → ℕ →
     where
       inner : (g : Graph) → slice_get flow.functions r.function ≡ Some g → (o : Option Block) → slice_get g.blocks r.block ≡ o → HopGood given (claims r.function) (setting_with (program_of flow) r.passed r.base) (hop_of (setting_with (program_of flow) r.passed r.base) r.block o r.state)
       inner g e None q = tt
-      inner g e (Some block) q = block_good g.arrays given (claims r.function) (setting_with (program_of flow) r.passed r.base) (a.sized.apart g e) r.block block r.state a.known (checked.blocks r.function r.block g block e q)
+      inner g e (Some block) q = block_good g.arrays given (claims r.function) (setting_with (program_of flow) r.passed r.base) (a.sized.apart g e) (roomy_fits flow checked.first checked.few r a.roomy g e) r.block block r.state a.known (checked.blocks r.function r.block g block e q)
 
       by : (o : Option Graph) → slice_get flow.functions r.function ≡ o → HopGood given (claims r.function) (setting_with (program_of flow) r.passed r.base) (body_hop (program_of flow) r (option_map (body_of (length flow.globals)) o))
       by None e = tt
@@ -307,7 +309,11 @@ module _ (flow : Flow) (given : ℕ → List Interval) (claims : ℕ → ℕ →
 
   enters_good : (g : ℕ) (o : Option Graph) (ns : List ℤ) (s : State) (fs : List Frame) → is_entry_checked (given g) (parameters_of o) (claims g 0) ≡ true → NumbersFit ns → NumbersWithin ns (given g) → StateFit s → FramesGood fs → StepGood (enters g (body_by o) ns s fs)
   enters_good g None ns s fs e f w k h = tt
-  enters_good g (Some graph) ns s fs e f w k h = record { known = entered_good g (body_of (length flow.globals) graph) ns s (setting_of (program_of flow) (length s.arrays)) e f w k; frames = h }
+  enters_good g (Some graph) ns s fs e f w k h = by (spots_for (body_by (Some graph)) ns s)
+    where
+      by : (spots : Option (List (Option ℕ))) → StepGood (enters_with g (body_by (Some graph)) ns s fs spots)
+      by None = tt
+      by (Some passed) = record { known = entered_good g (body_of (length flow.globals) graph) ns s (setting_with (program_of flow) passed (length s.arrays)) e f w k; frames = h }
 
   returned_good : (n : ℤ) (s : State) (base : ℕ) (fs : List Frame) → Within full (Some n) → StateFit s → FramesGood fs → StepGood (returned n s base fs)
   returned_good n s base [] f k h = tt
@@ -342,7 +348,7 @@ module _ (flow : Flow) (given : ℕ → List Interval) (claims : ℕ → ℕ →
   pub next_good : (r q : Active) → ActiveGood r → next (program_of flow) r ≡ On q → ActiveGood q
   next_good r q a e =
       let k = step_good r q (next (program_of flow) r) (after_good r (hop (program_of flow) r) a (hop_good r a)) e in
-      record { known = k.known; frames = k.frames; sized = next_sized flow r q a.sized e }
+      record { known = k.known; frames = k.frames; sized = next_sized flow checked.first r q a.sized e; roomy = next_roomy flow checked.first checked.few r q a.roomy e }
 
   leads_good : (n : ℕ) (r q : Active) → ActiveGood r → Leads flow n r q → ActiveGood q
   leads_good zero r q a l = subst ActiveGood l a
@@ -377,7 +383,7 @@ module _ (flow : Flow) (given : ℕ → List Interval) (claims : ℕ → ℕ →
   start_by (Some graph) input setting e h = entered_good flow.main (body_of (length flow.globals) graph) [] (globals_at_start flow input) setting e tt tt (start_fits input h)
 
   pub start_good : (input : List ℤ) → ((n : ℤ) → IsIn n input → IsNumber n) → ActiveGood (start flow input)
-  start_good input h = let p = program_of flow in record { known = start_by (slice_get flow.functions flow.main) input (setting_of p (start flow input).base) (checked.entries flow.main) h; frames = tt; sized = start_sized flow input }
+  start_good input h = let p = program_of flow in record { known = start_by (slice_get flow.functions flow.main) input (setting_of p (start flow input).base) (checked.entries flow.main) h; frames = tt; sized = start_sized flow input; roomy = start_roomy flow checked.first checked.few input }
 
   pub reached_good : (input : List ℤ) → ((n : ℤ) → IsIn n input → IsNumber n) → (n : ℕ) (r : Active) → Leads flow n (start flow input) r → ActiveGood r
   reached_good input h n r l = leads_good n (start flow input) r (start_good input h) l

@@ -1,5 +1,5 @@
 -- A flow of a program stays one where each of its graphs is narrowed by claims of its own.
-use Rattle.std.proofs.Common.{◌≡◌, ℕ, zero, suc, ◌+◌, ◌<◌, true, List, [], ◌∷◌, ◌++◌, length, take, get_or, slice_get, Option, Some, None, IfSome, refl, sym, ap, ◌∙◌, subst, arith}
+use Rattle.std.proofs.Common.{◌≡◌, ℕ, zero, suc, ◌+◌, ◌<◌, ◌≤◌, true, List, [], ◌∷◌, ◌++◌, length, take, get_or, slice_get, Option, Some, None, IfSome, refl, sym, ap, ◌∙◌, subst, arith}
 use Rattle.vx_flow.specs.declared.graph.Array.{Array}
 use Rattle.vx_flow.specs.declared.graph.Block.{Block}
 use Rattle.vx_flow.specs.declared.graph.Graph.{Graph}
@@ -8,10 +8,13 @@ use Rattle.vx_flow.specs.Sound.{is_sound_flow}
 use Rattle.vx_lower.specs.FlowOf.{FlowOf}
 use Rattle.vx_claims.specs.declared.claim.Claim.{Claim}
 use Rattle.vx_claims.specs.declared.intervals.Interval.{Interval}
-use Rattle.vx_narrow.specs.Checking.{Checked, parameters_of, is_entry_checked, is_block_checked}
+use Rattle.vx_narrow.specs.Checking.{Checked, most_arrays, parameters_of, is_entry_checked, is_block_checked}
 use Rattle.vx_claims.specs.Claims.{nothing}
 use Rattle.vx_narrow.specs.Rewriting.{narrowed_graph, narrowed_functions, narrowed_from, narrowed}
 use Rattle.vx_claims.specs.Claims.{listed_claims}
+use Rattle.vx_flow.specs.Apart.{HasGlobalsFirst}
+use Rattle.vx_flow.proofs.Entering.{globals_first}
+use Rattle.vx_flow.proofs.SoundFlowLaw.{flow_is}
 use Rattle.vx_narrow.specs.Narrowing.{are_blocks_checked, are_numbers, GraphNarrowed, GraphsNarrowed, NarrowedGraphsRun, NarrowedWith, NarrowedStays}
 use Rattle.vx_shape.specs.Flows.{with_graphs, FlowStays}
 use Rattle.vx_narrow.proofs.Ranges.{and_one, and_two}
@@ -36,8 +39,8 @@ checked_at arrays given claims blocks h i block e =
     let z : 0 + i ≡ i = omega arith in
     subst (λ m. is_block_checked arrays given claims m block ≡ true) z (checked_from arrays given claims 0 blocks h i block e)
 
-pub graph_by_table : (given : ℕ → List Interval) (f : ℕ) (table : List Claim) (g h : Graph) → is_entry_checked (given f) g.parameters (listed_claims table 0) ≡ true → are_blocks_checked g.arrays given (listed_claims table) 0 g.blocks ≡ true → h ≡ narrowed_graph (listed_claims table) g → GraphNarrowed given f g h
-graph_by_table given f table g h e c n = record { claims = listed_claims table; entry = e; blocks = checked_at g.arrays given (listed_claims table) g.blocks c; narrowed = n }
+pub graph_by_table : (given : ℕ → List Interval) (f : ℕ) (table : List Claim) (g h : Graph) → length g.arrays ≤ most_arrays → is_entry_checked (given f) g.parameters (listed_claims table 0) ≡ true → are_blocks_checked g.arrays given (listed_claims table) 0 g.blocks ≡ true → h ≡ narrowed_graph (listed_claims table) g → GraphNarrowed given f g h
+graph_by_table given f table g h few e c n = record { claims = listed_claims table; few = few; entry = e; blocks = checked_at g.arrays given (listed_claims table) g.blocks c; narrowed = n }
 
 pub with_blocks_is : (claims : ℕ → Claim) (g h : Graph) (blocks : List Block) → blocks ≡ narrowed_from g.arrays claims 0 g.blocks → h ≡ record g { blocks = blocks } → h ≡ narrowed_graph claims g
 with_blocks_is claims g h blocks e q = q ∙ ap (λ bs. record g { blocks = bs }) e
@@ -96,6 +99,13 @@ blocks_by given f (x ∷ gs) (h ∷ hs) s zero b g block e q =
     subst (λ (y : Graph). is_block_checked y.arrays given s.0.claims b block ≡ true) (sym i) (s.0.blocks b block (subst (λ (y : Graph). slice_get y.blocks b ≡ Some block) i q))
 blocks_by given f (x ∷ gs) (h ∷ hs) s (suc n) b g block e q = blocks_by given (f + 1) gs hs s.1 n b g block e q
 
+few_by : (given : ℕ → List Interval) (f : ℕ) (gs hs : List Graph) (s : NarrowedWith given f gs hs) (n : ℕ) (g : Graph) → slice_get gs n ≡ Some g → length g.arrays ≤ most_arrays
+few_by given f [] [] s n g e = absurd (cc)
+few_by given f [] (h ∷ hs) s n g e = absurd s
+few_by given f (x ∷ gs) [] s n g e = absurd s
+few_by given f (x ∷ gs) (h ∷ hs) s zero g e = let i : x ≡ g = cc in subst (λ (y : Graph). length y.arrays ≤ most_arrays) i s.0.few
+few_by given f (x ∷ gs) (h ∷ hs) s (suc n) g e = few_by given (f + 1) gs hs s.1 n g e
+
 shifted : (claims : ℕ → ℕ → Claim) (f : ℕ) (gs : List Graph) → narrowed_functions claims (f + 1) gs ≡ narrowed_functions (λ n. claims (suc n)) f gs
 shifted claims f [] = refl
 shifted claims f (g ∷ gs) =
@@ -116,8 +126,8 @@ record Passes (flow : Flow) (graphs : List Graph) : Type 0 where
   pub checked : Checked flow given claims
   pub is : narrowed claims flow ≡ with_graphs flow graphs
 
-passes : (flow : Flow) (graphs : List Graph) → GraphsNarrowed flow.functions graphs → are_numbers flow.globals ≡ true → Passes flow graphs
-passes flow graphs by numbers =
+passes : (flow : Flow) (graphs : List Graph) → GraphsNarrowed flow.functions graphs → are_numbers flow.globals ≡ true → HasGlobalsFirst flow → Passes flow graphs
+passes flow graphs by numbers first =
     let given = by.0 in
     let s : NarrowedWith given 0 flow.functions graphs = by.1 in
     let claims : ℕ → ℕ → Claim = claims_by given 0 flow.functions graphs s in
@@ -126,18 +136,18 @@ passes flow graphs by numbers =
     record {
       given = given;
       claims = claims;
-      checked = record { entries = entries; blocks = blocks_by given 0 flow.functions graphs s; globals = numbers };
+      checked = record { entries = entries; blocks = blocks_by given 0 flow.functions graphs s; globals = numbers; first = first; few = few_by given 0 flow.functions graphs s };
       is = ap (with_graphs flow) (functions_by given 0 flow.functions graphs s);
     }
 
 pub narrowed_stays : NarrowedStays
 narrowed_stays flow graphs by numbers sound p o =
-    let k = passes flow graphs by numbers in
+    let k = passes flow graphs by numbers (globals_first flow (flow_is flow o.sound)) in
     subst (FlowOf p) k.is (stays_flow p flow k.given k.claims k.checked o (subst (λ f. is_sound_flow f ≡ true) (sym k.is) sound))
 
 pub narrowed_graphs_run : NarrowedGraphsRun
-narrowed_graphs_run flow graphs by numbers input ns never n =
-    let k = passes flow graphs by numbers in
+narrowed_graphs_run flow graphs by numbers first input ns never n =
+    let k = passes flow graphs by numbers first in
     ap (λ f. graph_run f input n) (sym k.is) ∙ narrowed_runs flow k.given k.claims k.checked input ns never n
 
 pub once_stays : (flow new : Flow) (graphs : List Graph) → GraphsNarrowed flow.functions graphs → are_numbers flow.globals ≡ true → new ≡ with_graphs flow graphs → is_sound_flow new ≡ true → FlowStays flow new

@@ -129,6 +129,7 @@ module _ (k : ℕ → Claim) (g : Graph) where
   graph_of p function o = record {
     parameters = o.parameters;
     arrays = o.arrays;
+    bases = o.bases;
     trap_empty = λ b trap e. no_ops b e.block (from b e.block e.has) (o.trap_empty b trap (ends_before b trap e));
     trap_alone = λ b c trap e f. o.trap_alone b c trap (ends_before b trap e) (ends_before c trap f);
     traps_last = λ b c trap e l m. let w = o.traps_last b c trap (ends_before b trap e) l (subst (λ n. c < n) (blocks_length g.arrays k 0 g.blocks) m) in (w.0, ends_after c w.0 w.1);

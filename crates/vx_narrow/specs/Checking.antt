@@ -1,12 +1,12 @@
 -- When facts claimed at the starts of the blocks of a program are checked, and the laws of checked facts.
-use Rattle.std.specs.Prelude.{◌≡◌, ℕ, zero, suc, Bool, true, false, ◌&&◌, ◌||◌, ℤ, int_le, Option, Some, None, List, [], ◌∷◌, slice_get, slice_index_or}
+use Rattle.std.specs.Prelude.{◌≡◌, ℕ, zero, suc, Bool, true, false, ◌&&◌, ◌||◌, ℤ, int_le, nat_lt, ◌≤◌, Option, Some, None, List, [], ◌∷◌, length, slice_get, slice_index_or}
 use Rattle.std.specs.List.{list_all}
 use Rattle.vx_base.specs.Arithmetic.{IsNumber}
 use Rattle.vx_base.specs.Outcome.{On}
 use Rattle.vx_flow.specs.declared.graph.Operand.{Operand}
 use Rattle.vx_flow.specs.declared.graph.Operand.TheVariants.{Held, Number, Stack}
 use Rattle.vx_flow.specs.declared.graph.Op.{Op}
-use Rattle.vx_flow.specs.declared.graph.Op.TheVariants.{Compute, Select, Store}
+use Rattle.vx_flow.specs.declared.graph.Op.TheVariants.{Compute, Select, Store, Base}
 use Rattle.vx_flow.specs.declared.graph.Array.{Array}
 use Rattle.vx_flow.specs.declared.graph.Exit.{Exit}
 use Rattle.vx_flow.specs.declared.graph.Exit.TheVariants.{Goto, Split, Call, Return, Ends}
@@ -14,6 +14,7 @@ use Rattle.vx_flow.specs.declared.graph.Block.{Block}
 use Rattle.vx_flow.specs.declared.graph.Graph.{Graph}
 use Rattle.vx_flow.specs.declared.graph.Global.{Global}
 use Rattle.vx_flow.specs.declared.graph.Flow.{Flow}
+use Rattle.vx_flow.specs.Apart.{HasGlobalsFirst}
 use Rattle.vx_flow.specs.Effects.{IsIn}
 use Rattle.vx_flow.specs.Meaning.{Active, next, program_of, start}
 use Rattle.vx_claims.specs.declared.claim.Claim.{Claim}
@@ -36,12 +37,18 @@ has_number (Held v) = true
 has_number (Number n) = is_number n
 has_number Stack = true
 
+-- as many arrays a function has at most, so that where each array of a run stands is a number of 32 bits: at most 512 functions are
+-- active
+unfoldable pub most_arrays : ℕ
+most_arrays = 1048576
+
 -- each number that the operation computes with, chooses or stores has 32 bits; of an index, of a place and of what is printed
--- nothing is asked
+-- nothing is asked. A base is the number of where its array stands
 abbrev pub has_numbers : Op → Bool
 has_numbers (Compute code v a b) = has_number a && has_number b
 has_numbers (Select v p a b) = has_number a && has_number b
 has_numbers (Store a p x) = has_number x
+has_numbers (Base v a x) = nat_lt a most_arrays
 has_numbers op = true
 
 abbrev pub are_given : List Fact → List Access → Claim → Bool
@@ -112,6 +119,8 @@ pub record Checked (flow : Flow) (given : ℕ → List Interval) (claims : ℕ �
   pub entries : (f : ℕ) → is_entry_checked (given f) (parameters_of (slice_get flow.functions f)) (claims f 0) ≡ true
   pub blocks : (f b : ℕ) (g : Graph) (block : Block) → slice_get flow.functions f ≡ Some g → slice_get g.blocks b ≡ Some block → is_block_checked g.arrays given (claims f) b block ≡ true
   pub globals : list_all (λ (g : Global). is_number g.first) flow.globals ≡ true
+  pub first : HasGlobalsFirst flow
+  pub few : (f : ℕ) (g : Graph) → slice_get flow.functions f ≡ Some g → length g.arrays ≤ most_arrays
 
 -- so many blocks lead from one active function to another
 abbrev pub Leads : Flow → ℕ → Active → Active → Type 0

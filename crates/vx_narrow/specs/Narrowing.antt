@@ -1,7 +1,8 @@
 -- Graphs exchanged for narrowed ones: each graph by claims of its own, that its entry and its blocks pass with what is given of the
 -- parameters of all.
-use Rattle.std.specs.Prelude.{◌≡◌, ◌+◌, ℕ, ℤ, Bool, true, ◌&&◌, List, [], ◌∷◌, slice_get, Some}
+use Rattle.std.specs.Prelude.{◌≡◌, ◌≤◌, ◌+◌, ℕ, ℤ, Bool, true, ◌&&◌, List, [], ◌∷◌, length, slice_get, Some}
 use Rattle.std.specs.List.{list_all}
+use Rattle.vx_flow.specs.Apart.{HasGlobalsFirst}
 use Rattle.vx_flow.specs.declared.graph.Array.{Array}
 use Rattle.vx_flow.specs.declared.graph.Block.{Block}
 use Rattle.vx_flow.specs.declared.graph.Graph.{Graph}
@@ -14,7 +15,7 @@ use Rattle.vx_flow.specs.Meaning.{graph_run}
 use Rattle.vx_flow.specs.Sound.{is_sound_flow}
 use Rattle.vx_claims.specs.declared.claim.Claim.{Claim}
 use Rattle.vx_claims.specs.declared.intervals.Interval.{Interval}
-use Rattle.vx_narrow.specs.Checking.{is_number, is_entry_checked, is_block_checked}
+use Rattle.vx_narrow.specs.Checking.{is_number, most_arrays, is_entry_checked, is_block_checked}
 use Rattle.vx_narrow.specs.Rewriting.{narrowed_graph}
 use Rattle.vx_shape.specs.Flows.{with_graphs, FlowStays}
 
@@ -26,6 +27,7 @@ are_blocks_checked arrays given claims b (k ∷ ks) = is_block_checked arrays gi
 -- the new graph of function f is the old one narrowed by claims that pass, where so much is given of the parameters
 pub record GraphNarrowed (given : ℕ → List Interval) (f : ℕ) (old new : Graph) : Type 0 where
   pub claims : ℕ → Claim
+  pub few : length old.arrays ≤ most_arrays
   pub entry : is_entry_checked (given f) old.parameters (claims 0) ≡ true
   pub blocks : (b : ℕ) (block : Block) → slice_get old.blocks b ≡ Some block → is_block_checked old.arrays given claims b block ≡ true
   pub narrowed : new ≡ narrowed_graph claims old
@@ -50,5 +52,5 @@ NarrowedStays = (flow : Flow) (graphs : List Graph) → GraphsNarrowed flow.func
 
 -- on every input of numbers where a flow never fails, it comes to the same with its graphs narrowed, at every bound, whatever their shape
 abbrev pub NarrowedGraphsRun : Type 0
-NarrowedGraphsRun = (flow : Flow) (graphs : List Graph) → GraphsNarrowed flow.functions graphs → are_numbers flow.globals ≡ true → (input : List ℤ) → ((n : ℤ) → IsIn n input → IsNumber n) →
+NarrowedGraphsRun = (flow : Flow) (graphs : List Graph) → GraphsNarrowed flow.functions graphs → are_numbers flow.globals ≡ true → HasGlobalsFirst flow → (input : List ℤ) → ((n : ℤ) → IsIn n input → IsNumber n) →
     NeverFails (graph_run flow input) → (n : ℕ) → graph_run (with_graphs flow graphs) input n ≡ graph_run flow input n

@@ -18,6 +18,9 @@ use vx_claims::intervals::Interval;
 use vx_claims::known::{decided, give, is_never};
 use vx_flow::graph::{Block, BlockId, Exit, Op, Operand, Value};
 
+/// As many arrays a function has at most, so that where each array of a run stands is a number of 32 bits.
+pub const MOST_ARRAYS: u32 = 1_048_576;
+
 /// Whether a number has 32 bits.
 pub fn is_number(number: i32) -> bool
     ensures { result ≡ is_number number }
@@ -35,6 +38,7 @@ fn has_number(operand: Operand) -> bool
     }
 }
 
+#[tactic(auto, unfolding(crate::specs::Checking::most_arrays))]
 fn has_numbers(op: &Op) -> bool
     ensures { result ≡ has_numbers op.now }
 {
@@ -43,6 +47,7 @@ fn has_numbers(op: &Op) -> bool
             has_number(left) && has_number(right)
         }
         Op::Store { from, .. } => has_number(from),
+        Op::Base { array, .. } => array < MOST_ARRAYS,
         _ => true,
     }
 }

@@ -3,18 +3,18 @@
 // A graph that does not pass then is narrowed by what is known inside of each block, and a flow that would not be sound stays as it
 // is.
 
-ghost use Rattle.std.specs.Prelude.{◌≡◌, true, IfOk, IfSome};
+ghost use Rattle.std.specs.Prelude.{◌≡◌, true, length, nat_le, IfOk, IfSome};
 ghost use Rattle.vx_ast.specs.Tree.{Program};
 ghost use Rattle.vx_flow.specs.Sound.{is_sound_flow};
 ghost use Rattle.vx_lower.specs.FlowOf.{FlowOf};
 ghost use Rattle.vx_narrow.specs.Rewriting.{narrowed_from};
 ghost use Rattle.vx_narrow.specs.Narrowing.{are_blocks_checked, are_numbers, GraphNarrowed, GraphsNarrowed, NarrowedWith};
 ghost use Rattle.vx_claims.specs.Claims.{listed_claims};
-ghost use Rattle.vx_narrow.specs.Checking.{listed_given};
+ghost use Rattle.vx_narrow.specs.Checking.{listed_given, most_arrays};
 ghost use Rattle.vx_shape.specs.Flows.{FlowStays};
 
 use crate::block_pass::narrowed_block;
-use crate::checks::is_number;
+use crate::checks::{MOST_ARRAYS, is_number};
 use crate::given::{given_of, is_entry_checked};
 use std::alloc::Global;
 use vx_base::listed::Listed;
@@ -297,6 +297,9 @@ fn narrowed_by(
 ) -> Result<Option<Graph>, NoMemory>
     ensures { IfOk result (λ found. IfSome found (λ made. GraphNarrowed (listed_given given.now) function graph.now made)) }
 {
+    if !has_few_arrays(graph) {
+        return Ok(None);
+    }
     if !is_entry_checked(alloc, given, function, graph, table)? {
         return Ok(None);
     }
@@ -313,6 +316,14 @@ fn narrowed_by(
         }
         None => Ok(None),
     }
+}
+
+/// Whether a function has so few arrays that where each array of a run stands is a number of 32 bits.
+#[tactic(auto, unfolding(crate::specs::Checking::most_arrays))]
+fn has_few_arrays(graph: &Graph) -> bool
+    ensures { result ≡ nat_le (length graph.now.arrays) most_arrays }
+{
+    graph.arrays.len() <= MOST_ARRAYS as usize
 }
 
 /// The blocks of a function with these arrays narrowed, where all pass.

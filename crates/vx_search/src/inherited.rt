@@ -13,7 +13,8 @@ use vx_claims::claim::{Claim, accesses_in, facts_in};
 use vx_claims::effects::without;
 use vx_claims::fact::Fact;
 use vx_claims::known::{give, is_never};
-use vx_flow::graph::{Array, Block, BlockId, Exit, Graph, Value};
+use vx_flow::arrays::{has_base, is_own_array};
+use vx_flow::graph::{Array, ArrayId, Block, BlockId, Exit, Graph, Value};
 use vx_loops::{Loops, entries_at, loops_of};
 
 /// How many of the facts and of what is known of arrays are looked at at most, the newest first.
@@ -73,7 +74,7 @@ fn inherit_at(
     let blocks = graph.blocks.as_slice();
     match blocks.get(place as usize) {
         Some(block) => {
-            take_if(alloc, claims, loops, ends.as_slice(), blocks, place, joins)?;
+            take_if(alloc, claims, loops, ends.as_slice(), graph, place, joins)?;
             let end = end_of(
                 alloc,
                 graph.arrays.as_slice(),
@@ -94,14 +95,14 @@ fn take_if(
     claims: &mut Vec<Claim>,
     loops: &mut Loops,
     ends: &[Claim],
-    blocks: &[Block],
+    graph: &Graph,
     place: BlockId,
     joins: bool,
 ) -> Result<(), NoMemory>
     ensures { IfOk result (λ _. length claims.new.items ≡ length claims.old.items) }
 {
     if joins || loops.is_single(place) {
-        take_over(alloc, claims, loops, ends, blocks, place)
+        take_over(alloc, claims, loops, ends, graph, place)
     } else {
         Ok(())
     }
@@ -191,12 +192,12 @@ fn take_over(
     claims: &mut Vec<Claim>,
     loops: &mut Loops,
     ends: &[Claim],
-    blocks: &[Block],
+    graph: &Graph,
     place: BlockId,
 ) -> Result<(), NoMemory>
     ensures { IfOk result (λ _. length claims.new.items ≡ length claims.old.items) }
 {
-    let before = entries_at(alloc, blocks, loops, place as usize)?;
+    let before = entries_at(alloc, graph.blocks.as_slice(), loops, place as usize)?;
     match before.as_slice() {
         [] => Ok(()),
         [first, ..] => {
@@ -204,7 +205,15 @@ fn take_over(
             let facts = facts_in(ends, one);
             let accesses = accesses_in(ends, one);
             take_facts(claims, loops, ends, before.as_slice(), place, facts)?;
-            take_accesses(claims, loops, ends, before.as_slice(), place, accesses)
+            take_accesses(
+                graph.arrays.as_slice(),
+                claims,
+                loops,
+                ends,
+                before.as_slice(),
+                place,
+                accesses,
+            )
         }
     }
 }
@@ -238,6 +247,7 @@ fn take_facts(
 }
 
 fn take_accesses(
+    arrays: &[Array],
     claims: &mut Vec<Claim>,
     loops: &Loops,
     ends: &[Claim],
@@ -248,7 +258,7 @@ fn take_accesses(
     ensures { IfOk result (λ _. length claims.new.items ≡ length claims.old.items) }
 {
     for access in &accesses[..accesses.len().min(MOST)] {
-        if keeps_access(loops, *access) && all_tell(ends, before, *access) {
+        if keeps_access(arrays, loops, *access) && all_tell(ends, before, *access) {
             take_access(claims, place, *access)?;
         }
     }
@@ -270,14 +280,66 @@ fn keeps_fact(loops: &Loops, fact: Fact) -> bool {
     }
 }
 
+/// The most arrays of a function for which stores to any of them are looked for.
+const MOST_ARRAYS: usize = 256;
+
+/// Whether a turn of a loop may store to a word of an array, by its own name or by that of another which may be the same.
+fn may_change(arrays: &[Array], loops: &Loops, array: ArrayId) -> bool {
+    if loops.is_stored(array) {
+        return true;
+    }
+    match arrays.get(array as usize) {
+        Some(found) => {
+            if has_base(found) {
+                changes_shared(arrays, loops)
+            } else {
+                found.global && changes_handed(arrays, loops)
+            }
+        }
+        None => true,
+    }
+}
+
+fn is_stored_at(loops: &Loops, number: usize) -> bool {
+    number >= 4294967296 || loops.is_stored(number as u32)
+}
+
+/// Whether a turn stores to an array that was handed over. These stand behind the globals.
+fn changes_handed(arrays: &[Array], loops: &Loops) -> bool {
+    match arrays.split_last() {
+        Some((last, rest)) => {
+            !last.global
+                && (has_base(last) && is_stored_at(loops, rest.len())
+                    || changes_handed(rest, loops))
+        }
+        None => false,
+    }
+}
+
+/// Whether a turn stores to an array that is not the function's own, or there are too many to look for one.
+fn changes_shared(arrays: &[Array], loops: &Loops) -> bool {
+    if arrays.len() > MOST_ARRAYS {
+        return true;
+    }
+    for (number, found) in arrays.iter().enumerate() {
+        if !is_own_array(found) && loops.is_stored(number as u32) {
+            return true;
+        }
+    }
+    false
+}
+
 /// Whether each turn of a loop leaves what is known of an array.
-fn keeps_access(loops: &Loops, access: Access) -> bool {
+fn keeps_access(arrays: &[Array], loops: &Loops, access: Access) -> bool {
     match access {
         Access::Placed { value, index, .. } => {
             !loops.is_written(value) && loops.keeps(index) && !loops.has_call()
         }
         Access::Stored { array, place, from } => {
-            loops.keeps(place) && loops.keeps(from) && !loops.is_stored(array) && !loops.has_call()
+            loops.keeps(place)
+                && loops.keeps(from)
+                && !may_change(arrays, loops, array)
+                && !loops.has_call()
         }
     }
 }
