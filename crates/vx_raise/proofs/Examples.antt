@@ -1,6 +1,6 @@
 -- A loop that sums up an array, and the same after five steps: the compare, the place and the load of the next turn are computed at
 -- the end of this one, and once before the loop.
-use Rattle.std.proofs.Common.{◌≡◌, ℕ, ◌==◌, pos, Bool, true, false, None, List, [], ◌∷◌, slice_index_or, refl}
+use Rattle.std.proofs.Common.{◌≡◌, ℕ, ◌==◌, pos, Bool, true, false, Some, None, List, [], ◌∷◌, slice_index_or, refl}
 use Rattle.std.specs.List.{list_any}
 use Rattle.std.specs.Int.{int_wrap}
 use Rattle.vx_base.specs.Arithmetic.{sum_of, product_of}
@@ -14,6 +14,7 @@ use Rattle.vx_flow.specs.declared.graph.Op.TheVariants.{Compute, Place, Load, St
 use Rattle.vx_flow.specs.declared.graph.Exit.{Exit}
 use Rattle.vx_flow.specs.declared.graph.Exit.TheVariants.{Goto, Split, Return}
 use Rattle.vx_flow.specs.declared.graph.Block.{Block}
+use Rattle.vx_flow.specs.declared.graph.Array.{Array}
 use Rattle.vx_flow.specs.declared.graph.Graph.{Graph}
 use Rattle.vx_flow.specs.declared.graph.Flow.{Flow}
 use Rattle.vx_flow.specs.Meaning.{graph_run}
@@ -149,17 +150,37 @@ pub all_moved : all_lifted loop moves ≡ ahead
 all_moved = refl
 
 -- counting passes adding, and neither the place that it is counted for nor the load at that place
-pub counting_passes : may_pass add count ≡ true
+pub counting_passes : may_pass [] add count ≡ true
 counting_passes = refl
 
-pub counting_stays : may_pass place count ≡ false
+pub counting_stays : may_pass [] place count ≡ false
 counting_stays = refl
 
-pub load_stays : may_pass place (load false) ≡ false
+pub load_stays : may_pass [] place (load false) ≡ false
 load_stays = refl
 
-pub load_behind_store : may_pass (Store 0 (Number (pos 0)) (Held 1)) (load false) ≡ false
+-- a load passes a store to an array that is apart, and no other: here the function's own, an array that was handed over, a global
+
+abbrev kinds : List Array
+kinds = record { words = 4; global = true; named = 0; base = None } ∷ record { words = 0; global = false; named = 1; base = Some 9 } ∷ record { words = 8; global = false; named = 2; base = None } ∷ []
+
+abbrev store : ℕ → Op
+store a = Store a (Number (pos 0)) (Held 1)
+
+abbrev load_of : ℕ → Op
+load_of a = Load 5 a (Number (pos 0)) false
+
+pub load_behind_store : may_pass kinds (store 0) (load_of 0) ≡ false
 load_behind_store = refl
+
+pub load_past_another : may_pass kinds (store 0) (load_of 2) ≡ true
+load_past_another = refl
+
+pub load_past_what_was_handed_over : may_pass kinds (store 1) (load_of 2) ≡ true
+load_past_what_was_handed_over = refl
+
+pub handed_behind_a_global : may_pass kinds (store 0) (load_of 1) ≡ false
+handed_behind_a_global = refl
 
 -- ---- why a value may not be raised that is read on the other side, nor one that the test is of: by flows that then end otherwise
 

@@ -6,7 +6,9 @@ use Rattle.vx_flow.specs.declared.graph.Op.{Op}
 use Rattle.vx_flow.specs.declared.graph.Exit.{Exit}
 use Rattle.vx_flow.specs.declared.graph.Exit.TheVariants.{Goto, Split, Call, Return, Ends}
 use Rattle.vx_flow.specs.declared.graph.Block.{Block}
+use Rattle.vx_flow.specs.declared.graph.Array.{Array}
 use Rattle.vx_flow.specs.declared.graph.Graph.{Graph}
+use Rattle.vx_flow.specs.Apart.{StandApart}
 use Rattle.vx_flow.specs.Effects.{Content, State, Setting, held, effect, value_in, reads}
 use Rattle.vx_flow.specs.Meaning.{Hop, known, with_result, at_entry, leave, and_then, block_hop, hop_of}
 use Rattle.vx_flow.specs.Agree.{SameWorld, Agree}
@@ -55,8 +57,8 @@ same_ops setting i (op ∷ ops) exit s t a =
 
 -- ---- exchanged
 
-pair_tied : (setting : Setting) (i : ℕ) (x y : Op) (ops : List Op) (exit : Exit) (s t : State) → may_pass x y ≡ true → Agree Always s t → Ties all_tie setting (block_hop setting i (x ∷ y ∷ ops) exit s) (block_hop setting i (y ∷ x ∷ ops) exit t)
-pair_tied setting i x y ops exit s t h a = first (effect setting s x s) refl
+pair_tied : (arrays : List Array) (setting : Setting) (i : ℕ) (x y : Op) (ops : List Op) (exit : Exit) (s t : State) → StandApart arrays setting.spot → may_pass arrays x y ≡ true → Agree Always s t → Ties all_tie setting (block_hop setting i (x ∷ y ∷ ops) exit s) (block_hop setting i (y ∷ x ∷ ops) exit t)
+pair_tied arrays setting i x y ops exit s t stand h a = first (effect setting s x s) refl
   where
     third : (s2 : State) (d : Turned setting x y s s2) (u : Done Always d.between (effect setting t y t)) (w : Done Always d.after (effect setting u.state x u.state)) → Ties all_tie setting (block_hop setting i ops exit s2) (block_hop setting i (y ∷ x ∷ ops) exit t)
     third s2 d u w =
@@ -67,7 +69,7 @@ pair_tied setting i x y ops exit s t h a = first (effect setting s x s) refl
     second : (s1 : State) → effect setting s x s ≡ Some s1 → (o : Option State) → effect setting s1 y s1 ≡ o → Ties all_tie setting (and_then o (block_hop setting i ops exit)) (block_hop setting i (y ∷ x ∷ ops) exit t)
     second s1 e None q = wrong
     second s1 e (Some s2) q =
-        let d : Turned setting x y s s2 = turned setting x y s s1 s2 h e q in
+        let d : Turned setting x y s s2 = turned arrays setting x y s s1 s2 stand h e q in
         let u : Done Always d.between (effect setting t y t) = effect_same setting y s t d.between a d.first in
         let w : Done Always d.after (effect setting u.state x u.state) = effect_same setting x d.between u.state d.after u.agree d.second in
         third s2 d u w
@@ -76,51 +78,53 @@ pair_tied setting i x y ops exit s t h a = first (effect setting s x s) refl
     first None e = wrong
     first (Some s1) e = second s1 e (effect setting s1 y s1) refl
 
-ops_tied : (setting : Setting) (i k : ℕ) (ops : List Op) (exit : Exit) (s t : State) → can_exchange_ops k ops ≡ true → Agree Always s t → Ties all_tie setting (block_hop setting i ops exit s) (block_hop setting i (exchanged_ops k ops) exit t)
-ops_tied setting i k [] exit s t h a = absurd (false≢true h)
-ops_tied setting i zero (x ∷ []) exit s t h a = absurd (false≢true h)
-ops_tied setting i zero (x ∷ y ∷ ops) exit s t h a = pair_tied setting i x y ops exit s t h a
-ops_tied setting i (suc k) (x ∷ ops) exit s t h a =
-    then_tied setting (effect setting s x s) (effect setting t x t) (block_hop setting i ops exit) (block_hop setting i (exchanged_ops k ops) exit) (λ s' e. effect_same setting x s t s' a e) (λ s' t' more. ops_tied setting i k ops exit s' t' h more)
+ops_tied : (arrays : List Array) (setting : Setting) (i k : ℕ) (ops : List Op) (exit : Exit) (s t : State) → StandApart arrays setting.spot → can_exchange_ops arrays k ops ≡ true → Agree Always s t →
+    Ties all_tie setting (block_hop setting i ops exit s) (block_hop setting i (exchanged_ops k ops) exit t)
+ops_tied arrays setting i k [] exit s t stand h a = absurd (false≢true h)
+ops_tied arrays setting i zero (x ∷ []) exit s t stand h a = absurd (false≢true h)
+ops_tied arrays setting i zero (x ∷ y ∷ ops) exit s t stand h a = pair_tied arrays setting i x y ops exit s t stand h a
+ops_tied arrays setting i (suc k) (x ∷ ops) exit s t stand h a =
+    then_tied setting (effect setting s x s) (effect setting t x t) (block_hop setting i ops exit) (block_hop setting i (exchanged_ops k ops) exit) (λ s' e. effect_same setting x s t s' a e)
+    (λ s' t' more. ops_tied arrays setting i k ops exit s' t' stand h more)
 
 -- ---- blocks
 
 -- the block is the old one, or that with two operations exchanged
-abbrev pub BlockExchanged : ℕ → Block → Block → Type 0
-BlockExchanged k old new = (new ≡ old) ⊎ ((can_exchange_ops k old.ops ≡ true) × (new ≡ exchanged_block k old))
+abbrev pub BlockExchanged : List Array → ℕ → Block → Block → Type 0
+BlockExchanged arrays k old new = (new ≡ old) ⊎ ((can_exchange_ops arrays k old.ops ≡ true) × (new ≡ exchanged_block k old))
 
-blocks_themselves : (k : ℕ) (blocks : List Block) → Each (BlockExchanged k) blocks blocks
-blocks_themselves k [] = tt
-blocks_themselves k (block ∷ blocks) = (inl refl, blocks_themselves k blocks)
+blocks_themselves : (arrays : List Array) (k : ℕ) (blocks : List Block) → Each (BlockExchanged arrays k) blocks blocks
+blocks_themselves arrays k [] = tt
+blocks_themselves arrays k (block ∷ blocks) = (inl refl, blocks_themselves arrays k blocks)
 
-pub each_exchanged : (b k : ℕ) (blocks : List Block) → can_exchange_in k (slice_get blocks b) ≡ true → Each (BlockExchanged k) blocks (exchanged_blocks b k blocks)
-each_exchanged b k [] h = tt
-each_exchanged zero k (block ∷ blocks) h = (inr (h, refl), blocks_themselves k blocks)
-each_exchanged (suc b) k (block ∷ blocks) h = (inl refl, each_exchanged b k blocks h)
+pub each_exchanged : (arrays : List Array) (b k : ℕ) (blocks : List Block) → can_exchange_in arrays k (slice_get blocks b) ≡ true → Each (BlockExchanged arrays k) blocks (exchanged_blocks b k blocks)
+each_exchanged arrays b k [] h = tt
+each_exchanged arrays zero k (block ∷ blocks) h = (inr (h, refl), blocks_themselves arrays k blocks)
+each_exchanged arrays (suc b) k (block ∷ blocks) h = (inl refl, each_exchanged arrays b k blocks h)
 
-block_tied : (setting : Setting) (i k : ℕ) (old new : Block) (s t : State) → BlockExchanged k old new → Agree Always s t → Ties all_tie setting (block_hop setting i old.ops old.exit s) (block_hop setting i new.ops new.exit t)
-block_tied setting i k old new s t (inl e) a = subst (λ (z : Block). Ties all_tie setting (block_hop setting i old.ops old.exit s) (block_hop setting i z.ops z.exit t)) (sym e) (same_ops setting i old.ops old.exit s t a)
-block_tied setting i k old new s t (inr d) a = subst (λ (z : Block). Ties all_tie setting (block_hop setting i old.ops old.exit s) (block_hop setting i z.ops z.exit t)) (sym d.1) (ops_tied setting i k old.ops old.exit s t d.0 a)
+block_tied : (arrays : List Array) (setting : Setting) (i k : ℕ) (old new : Block) (s t : State) → StandApart arrays setting.spot → BlockExchanged arrays k old new → Agree Always s t → Ties all_tie setting (block_hop setting i old.ops old.exit s) (block_hop setting i new.ops new.exit t)
+block_tied arrays setting i k old new s t stand (inl e) a = subst (λ (z : Block). Ties all_tie setting (block_hop setting i old.ops old.exit s) (block_hop setting i z.ops z.exit t)) (sym e) (same_ops setting i old.ops old.exit s t a)
+block_tied arrays setting i k old new s t stand (inr d) a = subst (λ (z : Block). Ties all_tie setting (block_hop setting i old.ops old.exit s) (block_hop setting i z.ops z.exit t)) (sym d.1) (ops_tied arrays setting i k old.ops old.exit s t stand d.0 a)
 
-at_tied : (setting : Setting) (i k : ℕ) (o q : Option Block) → At (BlockExchanged k) o q → (s t : State) → Agree Always s t → Ties all_tie setting (hop_of setting i o s) (hop_of setting i q t)
-at_tied setting i k None None g s t a = wrong
-at_tied setting i k None (Some y) g s t a = absurd g
-at_tied setting i k (Some x) None g s t a = absurd g
-at_tied setting i k (Some x) (Some y) g s t a = block_tied setting i k x y s t g a
+at_tied : (arrays : List Array) (setting : Setting) (i k : ℕ) (o q : Option Block) → StandApart arrays setting.spot → At (BlockExchanged arrays k) o q → (s t : State) → Agree Always s t → Ties all_tie setting (hop_of setting i o s) (hop_of setting i q t)
+at_tied arrays setting i k None None stand g s t a = wrong
+at_tied arrays setting i k None (Some y) stand g s t a = absurd g
+at_tied arrays setting i k (Some x) None stand g s t a = absurd g
+at_tied arrays setting i k (Some x) (Some y) stand g s t a = block_tied arrays setting i k x y s t stand g a
 
 entry_tied : (x y : State) (values : ℕ → Content) → SameWorld x y → Agree Always (holding x values) (holding y values)
 entry_tied x y values w = record { world = record { arrays = w.arrays; input = w.input; out = w.out }; values = λ v n l e. e }
 
-blocks_tied : (g h : Graph) (k : ℕ) (blocks : List Block) → h ≡ record g { blocks = blocks } → Each (BlockExchanged k) g.blocks blocks → GraphTied all_tie g h
+blocks_tied : (g h : Graph) (k : ℕ) (blocks : List Block) → h ≡ record g { blocks = blocks } → Each (BlockExchanged g.arrays k) g.blocks blocks → GraphTied all_tie g h
 blocks_tied g h k blocks e each = record {
   blocks = blocks;
   is = e;
   entry = λ setting ns x y w. entry_tied x y (at_entry g.parameters ns) w;
-  hops = λ setting i s t w a. subst (λ (o : Option Block). Ties all_tie setting (hop_of setting i (slice_get g.blocks i) s) (hop_of setting i o t)) (sym (ap (λ (z : Graph). slice_get z.blocks i) e)) (at_tied setting i k (slice_get g.blocks i) (slice_get blocks i) (each_at (BlockExchanged k) g.blocks blocks each i) s t a);
+  hops = λ setting i s t stand w a. subst (λ (o : Option Block). Ties all_tie setting (hop_of setting i (slice_get g.blocks i) s) (hop_of setting i o t)) (sym (ap (λ (z : Graph). slice_get z.blocks i) e)) (at_tied g.arrays setting i k (slice_get g.blocks i) (slice_get blocks i) stand (each_at (BlockExchanged g.arrays k) g.blocks blocks each i) s t a);
 }
 
 pub exchanged_tied : (g h : Graph) (b k : ℕ) → can_exchange g b k ≡ true → h ≡ exchanged g b k → GraphTied all_tie g h
-exchanged_tied g h b k c e = blocks_tied g h k (exchanged_blocks b k g.blocks) e (each_exchanged b k g.blocks c)
+exchanged_tied g h b k c e = blocks_tied g h k (exchanged_blocks b k g.blocks) e (each_exchanged g.arrays b k g.blocks c)
 
 pub same_tied : (g h : Graph) → h ≡ g → GraphTied all_tie g h
-same_tied g h e = blocks_tied g h 0 g.blocks e (blocks_themselves 0 g.blocks)
+same_tied g h e = blocks_tied g h 0 g.blocks e (blocks_themselves g.arrays 0 g.blocks)

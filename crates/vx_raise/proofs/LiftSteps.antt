@@ -3,12 +3,13 @@ use Rattle.std.proofs.Common.{◌≡◌, ℕ, zero, suc, ◌-◌, ◌==◌, ◌&
 use Rattle.std.specs.List.{list_all}
 use Rattle.std.specs.Prelude.{not}
 use Rattle.std.specs.Option.{is_some}
+use Rattle.vx_flow.specs.declared.graph.Array.{Array}
 use Rattle.vx_flow.specs.declared.graph.Op.{Op}
 use Rattle.vx_flow.specs.Effects.{reads, writes}
 use Rattle.vx_flow.specs.Operands.{value_list, written_by}
 use Rattle.vx_flow.proofs.OperandLaws.{writes_are}
 use Rattle.vx_raise.specs.Raising.{result_of}
-use Rattle.vx_raise.specs.Exchanging.{are_apart, is_load, is_store, may_pass}
+use Rattle.vx_raise.specs.Exchanging.{are_apart, loaded_from, stored_to, meet, may_pass}
 use Rattle.vx_raise.specs.Lifting.{passes}
 use Rattle.vx_raise.proofs.Passing.{result_written}
 
@@ -36,21 +37,21 @@ apart_one first v ws e = ap (λ l. are_apart l ws) (sym (writes_are first) ∙ a
 pub apart_none : (first : Op) (ws : List ℕ) → written_by first ≡ None → are_apart (writes first) ws ≡ true
 apart_none first ws e = ap (λ l. are_apart l ws) (sym (writes_are first) ∙ ap value_list e)
 
-pub passes_one : (first second : Op) (v : ℕ) → result_of second ≡ Some v →
-    may_pass first second ≡ (list_all (λ w. not (w == v)) (reads first) && list_all (λ w. not (w == v)) (writes first) && are_apart (writes first) (reads second) && not (is_store first && is_load second))
-passes_one first second v e =
+pub passes_one : (arrays : List Array) (first second : Op) (v : ℕ) → result_of second ≡ Some v →
+    may_pass arrays first second ≡ (list_all (λ w. not (w == v)) (reads first) && list_all (λ w. not (w == v)) (writes first) && are_apart (writes first) (reads second) && not (meet arrays (loaded_from second) (stored_to first)))
+passes_one arrays first second v e =
     let own : writes second ≡ v ∷ [] = result_written second v e in
     let unread : are_apart (writes second) (reads first) ≡ list_all (λ w. not (w == v)) (reads first) = ap (λ l. are_apart l (reads first)) own ∙ and_true (list_all (λ w. not (w == v)) (reads first)) in
     let unwritten : are_apart (writes second) (writes first) ≡ list_all (λ w. not (w == v)) (writes first) = ap (λ l. are_apart l (writes first)) own ∙ and_true (list_all (λ w. not (w == v)) (writes first)) in
-    ap (λ o. is_some o && are_apart (writes second) (reads first) && are_apart (writes second) (writes first) && are_apart (writes first) (reads second) && not (is_store first && is_load second)) e ∙
-    (ap (λ q. q && are_apart (writes second) (writes first) && are_apart (writes first) (reads second) && not (is_store first && is_load second)) unread ∙
-    ap (λ q. list_all (λ w. not (w == v)) (reads first) && q && are_apart (writes first) (reads second) && not (is_store first && is_load second)) unwritten)
+    ap (λ o. is_some o && are_apart (writes second) (reads first) && are_apart (writes second) (writes first) && are_apart (writes first) (reads second) && not (meet arrays (loaded_from second) (stored_to first))) e ∙
+    (ap (λ q. q && are_apart (writes second) (writes first) && are_apart (writes first) (reads second) && not (meet arrays (loaded_from second) (stored_to first))) unread ∙
+    ap (λ q. list_all (λ w. not (w == v)) (reads first) && q && are_apart (writes first) (reads second) && not (meet arrays (loaded_from second) (stored_to first))) unwritten)
 
-pub passes_none : (first second : Op) → result_of second ≡ None → may_pass first second ≡ false
-passes_none first second e = ap (λ o. is_some o && are_apart (writes second) (reads first) && are_apart (writes second) (writes first) && are_apart (writes first) (reads second) && not (is_store first && is_load second)) e
+pub passes_none : (arrays : List Array) (first second : Op) → result_of second ≡ None → may_pass arrays first second ≡ false
+passes_none arrays first second e = ap (λ o. is_some o && are_apart (writes second) (reads first) && are_apart (writes second) (writes first) && are_apart (writes first) (reads second) && not (meet arrays (loaded_from second) (stored_to first))) e
 
-pub passes_more : (op first : Op) (place : ℕ) (ops rest : List Op) → (place ≡ 0 → ⊥) → ops ≡ first ∷ rest → may_pass first op ≡ true → passes op (place - 1) rest ≡ passes op place ops
-passes_more op first zero ops rest n e h = absurd (n refl)
-passes_more op first (suc p) ops rest n e h =
+pub passes_more : (arrays : List Array) (op first : Op) (place : ℕ) (ops rest : List Op) → (place ≡ 0 → ⊥) → ops ≡ first ∷ rest → may_pass arrays first op ≡ true → passes arrays op (place - 1) rest ≡ passes arrays op place ops
+passes_more arrays op first zero ops rest n e h = absurd (n refl)
+passes_more arrays op first (suc p) ops rest n e h =
     let less : suc p - 1 ≡ p = omega arith in
-    ap (λ k. passes op k rest) less ∙ (sym (ap (λ q. q && passes op p rest) h) ∙ sym (ap (passes op (suc p)) e))
+    ap (λ k. passes arrays op k rest) less ∙ (sym (ap (λ q. q && passes arrays op p rest) h) ∙ sym (ap (passes arrays op (suc p)) e))

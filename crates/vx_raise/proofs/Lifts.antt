@@ -8,6 +8,7 @@ use Rattle.std.specs.List.{list_all}
 use Rattle.std.specs.Prelude.{not}
 use Rattle.vx_flow.specs.declared.graph.Op.{Op}
 use Rattle.vx_flow.specs.declared.graph.Block.{Block}
+use Rattle.vx_flow.specs.declared.graph.Array.{Array}
 use Rattle.vx_flow.specs.declared.graph.Graph.{Graph}
 use Rattle.vx_flow.specs.Effects.{dismissed}
 use Rattle.vx_flow.specs.Live.{IsLive}
@@ -22,24 +23,24 @@ use Rattle.vx_raise.proofs.LiveStays.{exchanged_live, raised_live}
 
 -- ---- operations exchanged, one pair after the other
 
-data Turns : List Op → List Op → Type 0 where
-  none : {ops : List Op} → Turns ops ops
-  more : {ops after : List Op} (k : ℕ) → can_exchange_ops k ops ≡ true → Turns (exchanged_ops k ops) after → Turns ops after
+data Turns (arrays : List Array) : List Op → List Op → Type 0 where
+  none : {ops : List Op} → Turns arrays ops ops
+  more : {ops after : List Op} (k : ℕ) → can_exchange_ops arrays k ops ≡ true → Turns arrays (exchanged_ops k ops) after → Turns arrays ops after
 
-under : (x : Op) (ops after : List Op) → Turns ops after → Turns (x ∷ ops) (x ∷ after)
-under x _ _ (none {ops}) = none {ops = x ∷ ops}
-under x _ _ (more {ops} {after} k h t) = more {ops = x ∷ ops} {after = x ∷ after} (suc k) h (under x (exchanged_ops k ops) after t)
+under : (arrays : List Array) (x : Op) (ops after : List Op) → Turns arrays ops after → Turns arrays (x ∷ ops) (x ∷ after)
+under arrays x _ _ (none {ops}) = none {ops = x ∷ ops}
+under arrays x _ _ (more {ops} {after} k h t) = more {ops = x ∷ ops} {after = x ∷ after} (suc k) h (under arrays x (exchanged_ops k ops) after t)
 
-one_more : (k : ℕ) (ops after : List Op) → Turns ops after → can_exchange_ops k after ≡ true → Turns ops (exchanged_ops k after)
-one_more k _ _ (none {ops}) h = more {ops = ops} {after = exchanged_ops k ops} k h (none {ops = exchanged_ops k ops})
-one_more k _ _ (more {ops} {after} j g t) h = more {ops = ops} {after = exchanged_ops k after} j g (one_more k (exchanged_ops j ops) after t h)
+one_more : (arrays : List Array) (k : ℕ) (ops after : List Op) → Turns arrays ops after → can_exchange_ops arrays k after ≡ true → Turns arrays ops (exchanged_ops k after)
+one_more arrays k _ _ (none {ops}) h = more {ops = ops} {after = exchanged_ops k ops} k h (none {ops = exchanged_ops k ops})
+one_more arrays k _ _ (more {ops} {after} j g t) h = more {ops = ops} {after = exchanged_ops k after} j g (one_more arrays k (exchanged_ops j ops) after t h)
 
-brought : (op : Op) (k : ℕ) (ops : List Op) → slice_get ops k ≡ Some op → passes op k ops ≡ true → Turns ops (op ∷ without k ops)
-brought op k [] e h = absurd (cc)
-brought op zero (x ∷ ops) e h = let q : x ≡ op = cc in subst (λ z. Turns (x ∷ ops) (z ∷ ops)) q (none {ops = x ∷ ops})
-brought op (suc k) (x ∷ ops) e h =
-    let both = and_parts (may_pass x op) (passes op k ops) h in
-    one_more zero (x ∷ ops) (x ∷ op ∷ without k ops) (under x ops (op ∷ without k ops) (brought op k ops e both.1)) both.0
+brought : (arrays : List Array) (op : Op) (k : ℕ) (ops : List Op) → slice_get ops k ≡ Some op → passes arrays op k ops ≡ true → Turns arrays ops (op ∷ without k ops)
+brought arrays op k [] e h = absurd (cc)
+brought arrays op zero (x ∷ ops) e h = let q : x ≡ op = cc in subst (λ z. Turns arrays (x ∷ ops) (z ∷ ops)) q (none {ops = x ∷ ops})
+brought arrays op (suc k) (x ∷ ops) e h =
+    let both = and_parts (may_pass arrays x op) (passes arrays op k ops) h in
+    one_more arrays zero (x ∷ ops) (x ∷ op ∷ without k ops) (under arrays x ops (op ∷ without k ops) (brought arrays op k ops e both.1)) both.0
 
 -- ---- in a graph
 
@@ -102,18 +103,18 @@ record Reached (g : Graph) (b : ℕ) (after : List Op) : Type 0 where
   pub steps : Steps count g (record g { blocks = with_ops b after g.blocks })
   pub live : (c u : ℕ) → IsLive (record g { blocks = with_ops b after g.blocks }) c u → IsLive g c u
 
-reached : (b : ℕ) (ops after : List Op) → Turns ops after → (g : Graph) (block : Block) → slice_get g.blocks b ≡ Some block → block.ops ≡ ops → Reached g b after
-reached b _ _ (none {ops}) g block e q =
+reached : (arrays : List Array) (b : ℕ) (ops after : List Op) → Turns arrays ops after → (g : Graph) (block : Block) → g.arrays ≡ arrays → slice_get g.blocks b ≡ Some block → block.ops ≡ ops → Reached g b after
+reached arrays b _ _ (none {ops}) g block own e q =
     let same : with_ops b ops g.blocks ≡ g.blocks = ap (λ l. with_ops b l g.blocks) (sym q) ∙ ops_itself b g.blocks block e in
     record {
       count = 0;
       steps = ap (λ l. record g { blocks = l }) same;
       live = λ c u l. subst (λ z. IsLive (record g { blocks = z }) c u) same l;
     }
-reached b _ _ (more {ops} {after} k h t) g block e q =
-    let can : can_exchange g b k ≡ true = ap (can_exchange_in k) e ∙ (ap (can_exchange_ops k) q ∙ h) in
+reached arrays b _ _ (more {ops} {after} k h t) g block own e q =
+    let can : can_exchange g b k ≡ true = ap (λ z. can_exchange_in z k (slice_get g.blocks b)) own ∙ (ap (can_exchange_in arrays k) e ∙ (ap (can_exchange_ops arrays k) q ∙ h)) in
     let next : Graph = exchanged g b k in
-    let rest : Reached next b after = reached b (exchanged_ops k ops) after t next (exchanged_block k block) (exchanged_there b k g.blocks block e) (ap (exchanged_ops k) q) in
+    let rest : Reached next b after = reached arrays b (exchanged_ops k ops) after t next (exchanged_block k block) own (exchanged_there b k g.blocks block e) (ap (exchanged_ops k) q) in
     let again : with_ops b after next.blocks ≡ with_ops b after g.blocks = ops_again b k after g.blocks in
     let one : GraphExchanged g next = record { block = b; place = k; can = can; is = refl } in
     record {
@@ -133,14 +134,14 @@ pub record Lift (live : ℕ → ℕ → Bool) (g : Graph) (m : Move) : Type 0 wh
   pub has : slice_get g.blocks m.block ≡ Some block
   pub stands : slice_get block.ops m.place ≡ Some op
   pub there : op_of g m ≡ Some op
-  pub passed : passes op m.place block.ops ≡ true
+  pub passed : passes g.arrays op m.place block.ops ≡ true
   pub result : result_of op ≡ Some value
   pub takes : list_all (takes_in live (blocks_of m) value) g.blocks ≡ true
   pub first : result_of_first (op_of g m) ≡ Some value
   pub is : lifted g m ≡ record g { blocks = lifted_blocks m op 0 g.blocks }
 
 module _ (live : ℕ → ℕ → Bool) (g : Graph) (m : Move) where
-  by_value : (op : Op) (block : Block) (o : Option ℕ) → not (blocks_of m 0) ≡ true → is_in_both g m ≡ true → slice_get g.blocks m.block ≡ Some block → slice_get block.ops m.place ≡ Some op → passes op m.place block.ops ≡ true → result_of op ≡ o →
+  by_value : (op : Op) (block : Block) (o : Option ℕ) → not (blocks_of m 0) ≡ true → is_in_both g m ≡ true → slice_get g.blocks m.block ≡ Some block → slice_get block.ops m.place ≡ Some op → passes g.arrays op m.place block.ops ≡ true → result_of op ≡ o →
       may_raise live g (blocks_of m) o ≡ true → Lift live g m
   by_value op block None n s has e p r h = absurd (false≢true h)
   by_value op block (Some v) n s has e p r h =
@@ -165,8 +166,8 @@ module _ (live : ℕ → ℕ → Bool) (g : Graph) (m : Move) where
   by_op o None n s has e h = absurd (false≢true h)
   by_op None (Some op) n s has e h = absurd (cc)
   by_op (Some block) (Some op) n s has e h =
-      let both = and_parts (passes_in op m.place (slice_get g.blocks m.block)) (may_raise live g (blocks_of m) (result_of op)) h in
-      by_value op block (result_of op) n s has e (sym (ap (passes_in op m.place) has) ∙ both.0) refl both.1
+      let both = and_parts (passes_in g.arrays op m.place (slice_get g.blocks m.block)) (may_raise live g (blocks_of m) (result_of op)) h in
+      by_value op block (result_of op) n s has e (sym (ap (passes_in g.arrays op m.place) has) ∙ both.0) refl both.1
 
   pub lift_of : can_lift live g m ≡ true → Lift live g m
   lift_of h =
@@ -180,7 +181,7 @@ record There (g : Graph) (m : Move) (op : Op) : Type 0 where
   pub block : Block
   pub has : slice_get g.blocks m.other ≡ Some block
   pub stands : slice_get block.ops m.other_place ≡ Some op'
-  pub passed : passes op' m.other_place block.ops ≡ true
+  pub passed : passes g.arrays op' m.other_place block.ops ≡ true
   pub same : same_op op op' ≡ true
 
 there_of : (g : Graph) (m : Move) (op : Op) → op_of g m ≡ Some op → (m.block == m.other) ≡ false → is_in_both g m ≡ true → There g m op
@@ -197,13 +198,13 @@ there_of g m op e n h = by (slice_get g.blocks m.other) (op_at g m.other m.other
         nothing (Some x) = refl
     by None (Some op') has d h = absurd (cc)
     by (Some block) (Some op') has d h =
-        let both = and_parts (same_ops (op_of g m) (Some op')) (passes_in op' m.other_place (slice_get g.blocks m.other)) h in
+        let both = and_parts (same_ops (op_of g m) (Some op')) (passes_in g.arrays op' m.other_place (slice_get g.blocks m.other)) h in
         record {
           op' = op';
           block = block;
           has = has;
           stands = d;
-          passed = sym (ap (passes_in op' m.other_place) has) ∙ both.1;
+          passed = sym (ap (passes_in g.arrays op' m.other_place) has) ∙ both.1;
           same = sym (ap (λ x. same_ops x (Some op')) e) ∙ both.0;
         }
 
@@ -231,7 +232,7 @@ record Second (g : Graph) (m : Move) (op : Op) (before : List Op) (g1 : Graph) :
   pub block : Block
   pub has : slice_get g1.blocks m.other ≡ Some block
   pub ops : List Op
-  pub turns : Turns block.ops ops
+  pub turns : Turns g1.arrays block.ops ops
   pub count : length ops ≡ length block.ops
   pub one : are_one m.block m.other (Some op) (first_in ops) ≡ true
   pub both : (m.block == m.other) ≡ true → ops ≡ before
@@ -261,7 +262,7 @@ second_of g m op before first has e h = by (m.block == m.other) refl
           block = it.block;
           has = still ∙ it.has;
           ops = it.op' ∷ without m.other_place it.block.ops;
-          turns = brought it.op' m.other_place it.block.ops it.stands it.passed;
+          turns = brought g.arrays it.op' m.other_place it.block.ops it.stands it.passed;
           count = without_length it.op' m.other_place it.block.ops it.stands;
           one = ap (λ z. z || same_op op it.op') q ∙ it.same;
           both = λ z. absurd (false≢true (sym q ∙ z));
@@ -318,11 +319,11 @@ pub lifts : (live : ℕ → ℕ → Bool) (g : Graph) (m : Move) → ((c u : ℕ
 lifts live g m covers it =
     let before : List Op = it.op ∷ without m.place it.block.ops in
     let g1 : Graph = record g { blocks = with_ops m.block before g.blocks } in
-    let first_way : Reached g m.block before = reached m.block it.block.ops before (brought it.op m.place it.block.ops it.stands it.passed) g it.block it.has refl in
+    let first_way : Reached g m.block before = reached g.arrays m.block it.block.ops before (brought g.arrays it.op m.place it.block.ops it.stands it.passed) g it.block refl it.has refl in
     let second : Second g m it.op before g1 = second_of g m it.op before it.block it.has it.there it.both in
     let after : List Op = second.ops in
     let middle : Graph = record g { blocks = with_ops m.other after g1.blocks } in
-    let second_way : Reached g1 m.other after = reached m.other second.block.ops after second.turns g1 second.block second.has refl in
+    let second_way : Reached g1 m.other after = reached g1.arrays m.other second.block.ops after second.turns g1 second.block refl second.has refl in
     let way : Steps (plus first_way.count second_way.count) g middle = steps_then first_way.count second_way.count g g1 middle first_way.steps second_way.steps in
     let own : slice_get g1.blocks m.block ≡ Some (record { ops = before; exit = it.block.exit }) = ops_there m.block before g.blocks it.block it.has in
     let first : first_of (slice_get middle.blocks m.block) ≡ Some it.op = ap first_of (with_at m.other after g1.blocks m.block ∙ ap (option_map (renewed (m.block == m.other) after)) own) ∙ still (m.block == m.other) refl before after it.op refl second.both in

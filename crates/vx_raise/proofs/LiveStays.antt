@@ -8,6 +8,7 @@ use Rattle.vx_flow.specs.declared.graph.Op.{Op}
 use Rattle.vx_flow.specs.declared.graph.Exit.{Exit}
 use Rattle.vx_flow.specs.declared.graph.Exit.TheVariants.{Goto, Split, Call, Return, Ends}
 use Rattle.vx_flow.specs.declared.graph.Block.{Block}
+use Rattle.vx_flow.specs.declared.graph.Array.{Array}
 use Rattle.vx_flow.specs.declared.graph.Graph.{Graph}
 use Rattle.vx_flow.specs.Effects.{IsIn, reads, writes, dismissed}
 use Rattle.vx_flow.specs.Live.{IsLive, here, beyond, ReadsFirst, NeverWrites}
@@ -24,20 +25,20 @@ use Rattle.vx_raise.proofs.Exchanges.{BlockExchanged, each_exchanged}
 
 -- ---- exchanged
 
-reads_back : (k : ℕ) (ops : List Op) (exit : Exit) (u : ℕ) → can_exchange_ops k ops ≡ true → ReadsFirst (exchanged_ops k ops) exit u → ReadsFirst ops exit u
-reads_back k [] exit u h r = absurd (false≢true h)
-reads_back zero (x ∷ []) exit u h r = absurd (false≢true h)
-reads_back zero (x ∷ y ∷ ops) exit u h (inl m) = let a : Apart x y = apart_of x y h in inr (a.kept u m, inl m)
-reads_back zero (x ∷ y ∷ ops) exit u h (inr (n, inl m)) = inl m
-reads_back zero (x ∷ y ∷ ops) exit u h (inr (n, inr (k, r))) = inr (k, inr (n, r))
-reads_back (suc k) (x ∷ ops) exit u h (inl m) = inl m
-reads_back (suc k) (x ∷ ops) exit u h (inr (n, r)) = inr (n, reads_back k ops exit u h r)
+reads_back : (arrays : List Array) (k : ℕ) (ops : List Op) (exit : Exit) (u : ℕ) → can_exchange_ops arrays k ops ≡ true → ReadsFirst (exchanged_ops k ops) exit u → ReadsFirst ops exit u
+reads_back arrays k [] exit u h r = absurd (false≢true h)
+reads_back arrays zero (x ∷ []) exit u h r = absurd (false≢true h)
+reads_back arrays zero (x ∷ y ∷ ops) exit u h (inl m) = let a : Apart arrays x y = apart_of arrays x y h in inr (a.kept u m, inl m)
+reads_back arrays zero (x ∷ y ∷ ops) exit u h (inr (n, inl m)) = inl m
+reads_back arrays zero (x ∷ y ∷ ops) exit u h (inr (n, inr (k, r))) = inr (k, inr (n, r))
+reads_back arrays (suc k) (x ∷ ops) exit u h (inl m) = inl m
+reads_back arrays (suc k) (x ∷ ops) exit u h (inr (n, r)) = inr (n, reads_back arrays k ops exit u h r)
 
-never_back : (k : ℕ) (ops : List Op) (exit : Exit) (u : ℕ) → can_exchange_ops k ops ≡ true → NeverWrites (exchanged_ops k ops) exit u → NeverWrites ops exit u
-never_back k [] exit u h r = absurd (false≢true h)
-never_back zero (x ∷ []) exit u h r = absurd (false≢true h)
-never_back zero (x ∷ y ∷ ops) exit u h r = (r.1.0, (r.0, r.1.1))
-never_back (suc k) (x ∷ ops) exit u h r = (r.0, never_back k ops exit u h r.1)
+never_back : (arrays : List Array) (k : ℕ) (ops : List Op) (exit : Exit) (u : ℕ) → can_exchange_ops arrays k ops ≡ true → NeverWrites (exchanged_ops k ops) exit u → NeverWrites ops exit u
+never_back arrays k [] exit u h r = absurd (false≢true h)
+never_back arrays zero (x ∷ []) exit u h r = absurd (false≢true h)
+never_back arrays zero (x ∷ y ∷ ops) exit u h r = (r.1.0, (r.0, r.1.1))
+never_back arrays (suc k) (x ∷ ops) exit u h r = (r.0, never_back arrays k ops exit u h r.1)
 
 pub record Was (g : Graph) (c : ℕ) (new : Block) : Type 0 where
   pub block : Block
@@ -46,7 +47,7 @@ pub record Was (g : Graph) (c : ℕ) (new : Block) : Type 0 where
   pub reads : (u : ℕ) → ReadsFirst new.ops block.exit u → ReadsFirst block.ops block.exit u
   pub never : (u : ℕ) → NeverWrites new.ops block.exit u → NeverWrites block.ops block.exit u
 
-block_was : (g : Graph) (c k : ℕ) (old new : Block) → slice_get g.blocks c ≡ Some old → BlockExchanged k old new → Was g c new
+block_was : (g : Graph) (c k : ℕ) (old new : Block) → slice_get g.blocks c ≡ Some old → BlockExchanged g.arrays k old new → Was g c new
 block_was g c k old new e (inl d) = record {
   block = old;
   has = e;
@@ -58,19 +59,19 @@ block_was g c k old new e (inr d) = record {
   block = old;
   has = e;
   exit = ap (λ (z : Block). z.exit) d.1;
-  reads = λ u r. reads_back k old.ops old.exit u d.0 (subst (λ (z : Block). ReadsFirst z.ops old.exit u) d.1 r);
-  never = λ u r. never_back k old.ops old.exit u d.0 (subst (λ (z : Block). NeverWrites z.ops old.exit u) d.1 r);
+  reads = λ u r. reads_back g.arrays k old.ops old.exit u d.0 (subst (λ (z : Block). ReadsFirst z.ops old.exit u) d.1 r);
+  never = λ u r. never_back g.arrays k old.ops old.exit u d.0 (subst (λ (z : Block). NeverWrites z.ops old.exit u) d.1 r);
 }
 
-at_was : (g : Graph) (c k : ℕ) (o q : Option Block) → slice_get g.blocks c ≡ o → At (BlockExchanged k) o q → (new : Block) → q ≡ Some new → Was g c new
+at_was : (g : Graph) (c k : ℕ) (o q : Option Block) → slice_get g.blocks c ≡ o → At (BlockExchanged g.arrays k) o q → (new : Block) → q ≡ Some new → Was g c new
 at_was g c k None None e a new d = absurd (cc)
 at_was g c k None (Some y) e a new d = absurd a
 at_was g c k (Some x) None e a new d = absurd a
-at_was g c k (Some x) (Some y) e a new d = let q : y ≡ new = cc in block_was g c k x new e (subst (BlockExchanged k x) q a)
+at_was g c k (Some x) (Some y) e a new d = let q : y ≡ new = cc in block_was g c k x new e (subst (BlockExchanged g.arrays k x) q a)
 
 exchanged_was : (g : Graph) (b k : ℕ) → can_exchange g b k ≡ true → (c : ℕ) (new : Block) → slice_get (exchanged_blocks b k g.blocks) c ≡ Some new → Was g c new
 exchanged_was g b k h c new e =
-    at_was g c k (slice_get g.blocks c) (slice_get (exchanged_blocks b k g.blocks) c) refl (each_at (BlockExchanged k) g.blocks (exchanged_blocks b k g.blocks) (each_exchanged b k g.blocks h) c) new e
+    at_was g c k (slice_get g.blocks c) (slice_get (exchanged_blocks b k g.blocks) c) refl (each_at (BlockExchanged g.arrays k) g.blocks (exchanged_blocks b k g.blocks) (each_exchanged g.arrays b k g.blocks h) c) new e
 
 pub exchanged_live : (g : Graph) (b k : ℕ) → can_exchange g b k ≡ true → (c u : ℕ) → IsLive (exchanged g b k) c u → IsLive g c u
 exchanged_live g b k h _ _ (here {b = c} {v = u} {block} e r) =

@@ -13,7 +13,7 @@ use Rattle.vx_base.specs.declared.arithmetic.Code.TheVariants.{Add, Sub, And, Or
 use Rattle.vx_flow.specs.declared.graph.Operand.{Operand}
 use Rattle.vx_flow.specs.declared.graph.Operand.TheVariants.{Held, Number}
 use Rattle.vx_flow.specs.declared.graph.Op.{Op}
-use Rattle.vx_flow.specs.declared.graph.Op.TheVariants.{Compute, Select, Place, Load}
+use Rattle.vx_flow.specs.declared.graph.Op.TheVariants.{Compute, Select, Place, Load, Base, PlaceIn}
 use Rattle.vx_flow.specs.declared.graph.Exit.{Exit}
 use Rattle.vx_flow.specs.declared.graph.Exit.TheVariants.{Goto, Split, Call, Return, Ends}
 use Rattle.vx_flow.specs.declared.graph.Block.{Block}
@@ -89,6 +89,16 @@ op_is (Load v a p dismissible) (Load v' a' p' dismissible') e =
     let two = and_parts ((v == v') && (a == a')) (same_operand p p') e in
     let one = and_parts (v == v') (a == a') two.0 in
     ap (λ z. Load v' a' z true) (sym (operand_is p p' two.1)) ∙ (ap (λ z. Load v' z p true) (sym (eqb-true a a' one.1)) ∙ ap (λ z. Load z a p true) (sym (eqb-true v v' one.0)))
+op_is (Base v a x) (Base v' a' x') e =
+    let two = and_parts ((v == v') && (a == a')) (same_operand x x') e in
+    let one = and_parts (v == v') (a == a') two.0 in
+    ap (λ z. Base v' a' z) (sym (operand_is x x' two.1)) ∙ (ap (λ z. Base v' z x) (sym (eqb-true a a' one.1)) ∙ ap (λ z. Base z a x) (sym (eqb-true v v' one.0)))
+op_is (PlaceIn v a u i) (PlaceIn v' a' u' i') e =
+    let three = and_parts ((v == v') && (a == a') && (u == u')) (same_operand i i') e in
+    let two = and_parts ((v == v') && (a == a')) (u == u') three.0 in
+    let one = and_parts (v == v') (a == a') two.0 in
+    ap (λ z. PlaceIn v' a' u' z) (sym (operand_is i i' three.1)) ∙
+    (ap (λ z. PlaceIn v' a' z i) (sym (eqb-true u u' two.1)) ∙ (ap (λ z. PlaceIn v' z u i) (sym (eqb-true a a' one.1)) ∙ ap (λ z. PlaceIn z a u i) (sym (eqb-true v v' one.0))))
 op_is x y e = absurd (false≢true e)
 
 -- block c begins with the operation, dismissible or not
@@ -413,5 +423,5 @@ module _ (live : ℕ → ℕ → Bool) (g : Graph) (b b' : ℕ) (front : Front l
           blocks = raised_blocks from front.op 0 g.blocks;
           is = q;
           entry = λ setting ns x y w. entry_tied setting x y (at_entry g.parameters ns) w;
-          hops = λ setting i s t w a. subst (λ (o : Option Block). Ties tie setting (hop_of setting i (slice_get g.blocks i) s) (hop_of setting i o t)) (sym (ap (λ (k : Graph). slice_get k.blocks i) q ∙ block_here from front.op g.blocks i)) (option_tied setting i s t (slice_get g.blocks i) refl a);
+          hops = λ setting i s t stand w a. subst (λ (o : Option Block). Ties tie setting (hop_of setting i (slice_get g.blocks i) s) (hop_of setting i o t)) (sym (ap (λ (k : Graph). slice_get k.blocks i) q ∙ block_here from front.op g.blocks i)) (option_tied setting i s t (slice_get g.blocks i) refl a);
         }

@@ -8,6 +8,7 @@ use Rattle.vx_ast.specs.Tree.{Function, Program}
 use Rattle.vx_flow.specs.declared.graph.Op.{Op}
 use Rattle.vx_flow.specs.declared.graph.Exit.TheVariants.{Ends}
 use Rattle.vx_flow.specs.declared.graph.Block.{Block}
+use Rattle.vx_flow.specs.declared.graph.Array.{Array}
 use Rattle.vx_flow.specs.declared.graph.Graph.{Graph}
 use Rattle.vx_flow.specs.Effects.{IsIn, dismissed}
 use Rattle.vx_flow.specs.Sound.{targets_of}
@@ -92,30 +93,30 @@ exchanged_length zero (x ∷ []) = refl
 exchanged_length zero (x ∷ y ∷ ops) = refl
 exchanged_length (suc k) (x ∷ ops) = ap suc (exchanged_length k ops)
 
-exchanged_like : (k : ℕ) (old new : Block) → BlockExchanged k old new → BlockLike old new
-exchanged_like k old new (inl e) = record {
+exchanged_like : (arrays : List Array) (k : ℕ) (old new : Block) → BlockExchanged arrays k old new → BlockLike old new
+exchanged_like arrays k old new (inl e) = record {
   exit = ap (λ (x : Block). x.exit) e;
   empty = λ t q h. ap (λ (x : Block). x.ops) e ∙ h;
   short = λ h. subst (λ (x : Block). length x.ops ≤ 512) (sym e) h;
 }
-exchanged_like k old new (inr d) = record {
+exchanged_like arrays k old new (inr d) = record {
   exit = ap (λ (x : Block). x.exit) d.1;
   empty = λ t q h. ap (λ (x : Block). x.ops) d.1 ∙ ap (exchanged_ops k) h;
   short = λ h. subst (λ (x : Block). length x.ops ≤ 512) (sym d.1) (subst (λ n. n ≤ 512) (sym (exchanged_length k old.ops)) h);
 }
 
-at_like : (k : ℕ) (x y : Option Block) → At (BlockExchanged k) x y → At BlockLike x y
-at_like k None None a = tt
-at_like k None (Some y) a = absurd a
-at_like k (Some x) None a = absurd a
-at_like k (Some x) (Some y) a = exchanged_like k x y a
+at_like : (arrays : List Array) (k : ℕ) (x y : Option Block) → At (BlockExchanged arrays k) x y → At BlockLike x y
+at_like arrays k None None a = tt
+at_like arrays k None (Some y) a = absurd a
+at_like arrays k (Some x) None a = absurd a
+at_like arrays k (Some x) (Some y) a = exchanged_like arrays k x y a
 
 pub exchanged_kept : (g h : Graph) → GraphExchanged g h → KeepsShape g h
 exchanged_kept g h x p function o =
-    let each : Each (BlockExchanged x.place) g.blocks (exchanged_blocks x.block x.place g.blocks) = each_exchanged x.block x.place g.blocks x.can in
+    let each : Each (BlockExchanged g.arrays x.place) g.blocks (exchanged_blocks x.block x.place g.blocks) = each_exchanged g.arrays x.block x.place g.blocks x.can in
     subst (GraphOf p function) (sym x.is)
-    (like_kept p function g (exchanged_blocks x.block x.place g.blocks) o (each_length (BlockExchanged x.place) g.blocks (exchanged_blocks x.block x.place g.blocks) each)
-    (λ i. at_like x.place (slice_get g.blocks i) (slice_get (exchanged_blocks x.block x.place g.blocks) i) (each_at (BlockExchanged x.place) g.blocks (exchanged_blocks x.block x.place g.blocks) each i)))
+    (like_kept p function g (exchanged_blocks x.block x.place g.blocks) o (each_length (BlockExchanged g.arrays x.place) g.blocks (exchanged_blocks x.block x.place g.blocks) each)
+    (λ i. at_like g.arrays x.place (slice_get g.blocks i) (slice_get (exchanged_blocks x.block x.place g.blocks) i) (each_at (BlockExchanged g.arrays x.place) g.blocks (exchanged_blocks x.block x.place g.blocks) each i)))
 
 -- ---- raised
 

@@ -1,8 +1,8 @@
 -- An operation that may be raised always has a meaning once it may be dismissed, and then only writes its value.
-use Rattle.std.proofs.Common.{◌≡◌, ℕ, Bool, true, false, List, slice_index_or, Option, Some, None, refl, subst}
+use Rattle.std.proofs.Common.{◌≡◌, ℕ, pos, Bool, true, false, List, slice_index_or, Option, Some, None, refl, subst}
 use Rattle.vx_flow.specs.declared.graph.Op.{Op}
-use Rattle.vx_flow.specs.declared.graph.Op.TheVariants.{Compute, Select, Place, Load, Store, More, Input, Text, Decimal, Across}
-use Rattle.vx_flow.specs.Effects.{Content, State, Setting, held, computed, chosen, place_of, row_of, cell_of, with_value, loaded, effect, reads, writes, dismissed}
+use Rattle.vx_flow.specs.declared.graph.Op.TheVariants.{Compute, Select, Place, Load, Store, More, Input, Text, Decimal, Across, Base, PlaceIn}
+use Rattle.vx_flow.specs.Effects.{Content, State, Setting, held, computed, chosen, place_of, place_by, row_of, cell_of, with_value, loaded, effect, reads, writes, dismissed}
 use Rattle.vx_raise.specs.Raising.{result_of}
 
 pub record Wrote (v : ℕ) (t : State) (o : Option State) : Type 0 where
@@ -27,6 +27,8 @@ wrote setting (Input u) v s t e = absurd (cc)
 wrote setting (Text n) v s t e = absurd (cc)
 wrote setting (Decimal x) v s t e = absurd (cc)
 wrote setting (Across u w) v s t e = absurd (cc)
+wrote setting (Base u a x) v s t e = subst (λ w. Wrote w t (effect setting s (Base u a x) t)) (same_value u v e) (record { content = Some (pos (setting.spot a)); is = refl })
+wrote setting (PlaceIn u a w i) v s t e = subst (λ z. Wrote z t (effect setting s (PlaceIn u a w i) t)) (same_value u v e) (record { content = place_by (s.values w) (held s i); is = refl })
 
 -- where it has a meaning as it stands it has the same once it may be dismissed
 
@@ -46,6 +48,8 @@ dismissed_same setting (Input u) s t t' e = e
 dismissed_same setting (Text n) s t t' e = e
 dismissed_same setting (Decimal x) s t t' e = e
 dismissed_same setting (Across u w) s t t' e = e
+dismissed_same setting (Base u a x) s t t' e = e
+dismissed_same setting (PlaceIn u a w i) s t t' e = e
 
 pub dismissed_reads : (op : Op) → reads (dismissed op) ≡ reads op
 dismissed_reads (Compute code u a c) = refl
@@ -58,6 +62,8 @@ dismissed_reads (Input u) = refl
 dismissed_reads (Text n) = refl
 dismissed_reads (Decimal x) = refl
 dismissed_reads (Across u w) = refl
+dismissed_reads (Base u a x) = refl
+dismissed_reads (PlaceIn u a w i) = refl
 
 pub dismissed_writes : (op : Op) → writes (dismissed op) ≡ writes op
 dismissed_writes (Compute code u a c) = refl
@@ -70,3 +76,5 @@ dismissed_writes (Input u) = refl
 dismissed_writes (Text n) = refl
 dismissed_writes (Decimal x) = refl
 dismissed_writes (Across u w) = refl
+dismissed_writes (Base u a x) = refl
+dismissed_writes (PlaceIn u a w i) = refl

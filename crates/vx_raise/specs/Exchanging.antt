@@ -4,8 +4,10 @@ use Rattle.std.specs.List.{list_all}
 use Rattle.std.specs.Option.{is_some}
 use Rattle.vx_flow.specs.declared.graph.Op.{Op}
 use Rattle.vx_flow.specs.declared.graph.Op.TheVariants.{Load, Store}
+use Rattle.vx_flow.specs.declared.graph.Array.{Array}
 use Rattle.vx_flow.specs.declared.graph.Block.{Block}
 use Rattle.vx_flow.specs.declared.graph.Graph.{Graph}
+use Rattle.vx_flow.specs.Apart.{may_meet}
 use Rattle.vx_flow.specs.Effects.{reads, writes}
 use Rattle.vx_raise.specs.Raising.{result_of}
 
@@ -31,31 +33,39 @@ exchanged g b k = record g { blocks = exchanged_blocks b k g.blocks }
 abbrev pub are_apart : List ℕ → List ℕ → Bool
 are_apart vs ws = list_all (λ v. list_all (λ w. not (w == v)) ws) vs
 
-abbrev pub is_load : Op → Bool
-is_load (Load v a p dismissible) = true
-is_load op = false
+-- the array that an operation loads from, and that it stores to
 
-abbrev pub is_store : Op → Bool
-is_store (Store a p x) = true
-is_store op = false
+abbrev pub loaded_from : Op → Option ℕ
+loaded_from (Load v a p dismissible) = Some a
+loaded_from op = None
+
+abbrev pub stored_to : Op → Option ℕ
+stored_to (Store a p x) = Some a
+stored_to op = None
+
+-- of two arrays, where both are there, that they may share a word
+abbrev pub meet : List Array → Option ℕ → Option ℕ → Bool
+meet arrays (Some a) (Some b) = may_meet arrays a b
+meet arrays a b = false
 
 -- y, which stands behind x, may stand before it: it only writes a value, neither of them touches what the other writes, and no load
--- passes a store
-abbrev pub may_pass : Op → Op → Bool
-may_pass x y = is_some (result_of y) && are_apart (writes y) (reads x) && are_apart (writes y) (writes x) && are_apart (writes x) (reads y) && not (is_store x && is_load y)
+-- passes a store to an array that may share a word with its own
+abbrev pub may_pass : List Array → Op → Op → Bool
+may_pass arrays x y =
+    is_some (result_of y) && are_apart (writes y) (reads x) && are_apart (writes y) (writes x) && are_apart (writes x) (reads y) && not (meet arrays (loaded_from y) (stored_to x))
 
-abbrev pub can_exchange_ops : ℕ → List Op → Bool
-can_exchange_ops k [] = false
-can_exchange_ops zero (x ∷ []) = false
-can_exchange_ops zero (x ∷ y ∷ ops) = may_pass x y
-can_exchange_ops (suc k) (x ∷ ops) = can_exchange_ops k ops
+abbrev pub can_exchange_ops : List Array → ℕ → List Op → Bool
+can_exchange_ops arrays k [] = false
+can_exchange_ops arrays zero (x ∷ []) = false
+can_exchange_ops arrays zero (x ∷ y ∷ ops) = may_pass arrays x y
+can_exchange_ops arrays (suc k) (x ∷ ops) = can_exchange_ops arrays k ops
 
-abbrev pub can_exchange_in : ℕ → Option Block → Bool
-can_exchange_in k None = false
-can_exchange_in k (Some block) = can_exchange_ops k block.ops
+abbrev pub can_exchange_in : List Array → ℕ → Option Block → Bool
+can_exchange_in arrays k None = false
+can_exchange_in arrays k (Some block) = can_exchange_ops arrays k block.ops
 
 abbrev pub can_exchange : Graph → (b k : ℕ) → Bool
-can_exchange g b k = can_exchange_in k (slice_get g.blocks b)
+can_exchange g b k = can_exchange_in g.arrays k (slice_get g.blocks b)
 
 -- the new graph is the old one with two operations exchanged
 pub record GraphExchanged (old new : Graph) : Type 0 where

@@ -3,6 +3,7 @@
 use Rattle.std.specs.Prelude.{◌≡◌, ℕ, zero, suc, ◌==◌, Bool, true, false, ◌&&◌, ◌||◌, not, if◌then◌else◌, Option, Some, None, List, [], ◌∷◌, ◌++◌, slice_get}
 use Rattle.std.specs.List.{list_any}
 use Rattle.vx_flow.specs.declared.graph.Op.{Op}
+use Rattle.vx_flow.specs.declared.graph.Array.{Array}
 use Rattle.vx_flow.specs.declared.graph.Block.{Block}
 use Rattle.vx_flow.specs.declared.graph.Graph.{Graph}
 use Rattle.vx_flow.specs.Effects.{dismissed}
@@ -61,18 +62,18 @@ lifted g m = lifted_by g m (op_of g m)
 -- ---- when it may be
 
 -- the operation may pass each of the first k
-abbrev pub passes : Op → ℕ → List Op → Bool
-passes op zero ops = true
-passes op (suc k) [] = false
-passes op (suc k) (x ∷ ops) = may_pass x op && passes op k ops
+abbrev pub passes : List Array → Op → ℕ → List Op → Bool
+passes arrays op zero ops = true
+passes arrays op (suc k) [] = false
+passes arrays op (suc k) (x ∷ ops) = may_pass arrays x op && passes arrays op k ops
 
-abbrev pub passes_in : Op → ℕ → Option Block → Bool
-passes_in op k None = false
-passes_in op k (Some block) = passes op k block.ops
+abbrev pub passes_in : List Array → Op → ℕ → Option Block → Bool
+passes_in arrays op k None = false
+passes_in arrays op k (Some block) = passes arrays op k block.ops
 
 abbrev pub passes_at : Graph → (b k : ℕ) → Option Op → Bool
 passes_at g b k None = false
-passes_at g b k (Some op) = passes_in op k (slice_get g.blocks b)
+passes_at g b k (Some op) = passes_in g.arrays op k (slice_get g.blocks b)
 
 -- it may pass what stands before it in the other block too, and is one there; of one block alone there is nothing to ask
 abbrev pub is_in_both : Graph → Move → Bool
@@ -80,7 +81,7 @@ is_in_both g m = (m.block == m.other) || (same_ops (op_of g m) (op_at g m.other 
 
 abbrev pub can_lift_op : (live : (block value : ℕ) → Bool) → Graph → Move → Option Op → Bool
 can_lift_op live g m None = false
-can_lift_op live g m (Some op) = passes_in op m.place (slice_get g.blocks m.block) && may_raise live g (blocks_of m) (result_of op)
+can_lift_op live g m (Some op) = passes_in g.arrays op m.place (slice_get g.blocks m.block) && may_raise live g (blocks_of m) (result_of op)
 
 abbrev pub can_lift : (live : (block value : ℕ) → Bool) → Graph → Move → Bool
 can_lift live g m = not (blocks_of m 0) && is_in_both g m && can_lift_op live g m (op_of g m)

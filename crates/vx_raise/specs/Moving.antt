@@ -4,6 +4,7 @@ use Rattle.vx_base.specs.Outcome.{NeverFails}
 use Rattle.vx_ast.specs.Tree.{Program}
 use Rattle.vx_flow.specs.declared.graph.Graph.{Graph}
 use Rattle.vx_flow.specs.declared.graph.Flow.{Flow}
+use Rattle.vx_flow.specs.Apart.{HasGlobalsFirst}
 use Rattle.vx_flow.specs.Meaning.{graph_run, graph_path}
 use Rattle.vx_flow.specs.Sound.{is_sound_flow}
 use Rattle.vx_lower.specs.FlowOf.{AreNumbers, FlowOf}
@@ -24,13 +25,13 @@ pub record GraphMoved (old new : Graph) : Type 0 where
   pub count : ℕ
   pub steps : Steps count old new
 
--- on every input where the old flow never fails, the new one comes to the same at every bound
+-- where the globals are flagged, on every input where the old flow never fails, the new one comes to the same at every bound
 abbrev pub MovedRuns : Type 0
-MovedRuns = (flow : Flow) (graphs : List Graph) → Each GraphMoved flow.functions graphs → (input : List ℤ) → NeverFails (graph_run flow input) → (n : ℕ) → graph_run (with_graphs flow graphs) input n ≡ graph_run flow input n
+MovedRuns = (flow : Flow) (graphs : List Graph) → HasGlobalsFirst flow → Each GraphMoved flow.functions graphs → (input : List ℤ) → NeverFails (graph_run flow input) → (n : ℕ) → graph_run (with_graphs flow graphs) input n ≡ graph_run flow input n
 
 -- and passes the same blocks and edges, so that what is counted of the one is true of the other
 abbrev pub MovedPaths : Type 0
-MovedPaths = (flow : Flow) (graphs : List Graph) → Each GraphMoved flow.functions graphs → (input : List ℤ) → NeverFails (graph_run flow input) → (n : ℕ) → graph_path (with_graphs flow graphs) input n ≡ graph_path flow input n
+MovedPaths = (flow : Flow) (graphs : List Graph) → HasGlobalsFirst flow → Each GraphMoved flow.functions graphs → (input : List ℤ) → NeverFails (graph_run flow input) → (n : ℕ) → graph_path (with_graphs flow graphs) input n ≡ graph_path flow input n
 
 -- on every input where the old flow never fails, the new one passes the same blocks and edges at every bound
 abbrev pub SamePaths : Flow → Flow → Type 0

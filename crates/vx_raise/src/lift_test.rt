@@ -6,12 +6,13 @@ ghost use Rattle.std.specs.List.{list_all};
 ghost use Rattle.vx_flow.specs.Effects.{reads, writes};
 ghost use Rattle.vx_flow.specs.Operands.{value_list, values_read};
 ghost use Rattle.vx_raise.specs.Raising.{is_either, leads_to, lets_in, may_raise, result_of, same_op, takes_in};
-ghost use Rattle.vx_raise.specs.Exchanging.{are_apart, is_load, is_store, may_pass};
+ghost use Rattle.vx_raise.specs.Exchanging.{are_apart, loaded_from, may_pass, meet, stored_to};
 ghost use Rattle.vx_raise.specs.Lifting.{can_lift, known_at, op_at, passes};
 
 use crate::known::Known;
 use vx_claims::known::{same_code, same_operand};
-use vx_flow::graph::{Block, BlockId, Exit, Graph, Op, Value};
+use vx_flow::arrays::may_meet;
+use vx_flow::graph::{Array, ArrayId, Block, BlockId, Exit, Graph, Op, Value};
 use vx_flow::operands::{Reads, read_by, written_by};
 
 /// The blocks from which an operation is raised: the same twice where it is raised from one alone.
@@ -50,7 +51,9 @@ pub fn result_of(op: &Op) -> Option<Value>
         Op::Compute { to, .. }
         | Op::Select { to, .. }
         | Op::Place { to, .. }
-        | Op::Load { to, .. } => Some(*to),
+        | Op::Load { to, .. }
+        | Op::Base { to, .. }
+        | Op::PlaceIn { to, .. } => Some(*to),
         _ => None,
     }
 }
@@ -120,6 +123,33 @@ pub fn same_op(first: &Op, second: &Op) -> bool
                 ..
             },
         ) => to == other_to && array == other_array && same_operand(place, other_place),
+        (
+            Op::Base { to, array, from },
+            Op::Base {
+                to: other_to,
+                array: other_array,
+                from: other_from,
+            },
+        ) => to == other_to && array == other_array && same_operand(from, other_from),
+        (
+            Op::PlaceIn {
+                to,
+                array,
+                base,
+                index,
+            },
+            Op::PlaceIn {
+                to: other_to,
+                array: other_array,
+                base: other_base,
+                index: other_index,
+            },
+        ) => {
+            to == other_to
+                && array == other_array
+                && base == other_base
+                && same_operand(index, other_index)
+        }
         _ => false,
     }
 }
@@ -201,53 +231,65 @@ fn is_apart(first: &Op, second: &Op) -> bool
     }
 }
 
-fn is_load(op: &Op) -> bool
-    ensures { result ≡ is_load op.now }
+fn loaded_from(op: &Op) -> Option<ArrayId>
+    ensures { result ≡ loaded_from op.now }
 {
     match op {
-        Op::Load { .. } => true,
-        _ => false,
+        Op::Load { array, .. } => Some(*array),
+        _ => None,
     }
 }
 
-fn is_store(op: &Op) -> bool
-    ensures { result ≡ is_store op.now }
+fn stored_to(op: &Op) -> Option<ArrayId>
+    ensures { result ≡ stored_to op.now }
 {
     match op {
-        Op::Store { .. } => true,
+        Op::Store { array, .. } => Some(*array),
+        _ => None,
+    }
+}
+
+/// Of two arrays, where both are there, whether they may share a word.
+fn meet(arrays: &[Array], one: Option<ArrayId>, other: Option<ArrayId>) -> bool
+    ensures { result ≡ meet arrays.now one other }
+{
+    match (one, other) {
+        (Some(one), Some(other)) => may_meet(arrays, one, other),
         _ => false,
     }
 }
 
 /// Whether the second operation, which writes the value, stands apart from the first.
-fn stands_apart(value: Value, first: &Op, second: &Op) -> bool
-    ensures { result ≡ (list_all (λ w. not (w == value)) (reads first.now) && list_all (λ w. not (w == value)) (writes first.now) && are_apart (writes first.now) (reads second.now) && not (is_store first.now && is_load second.now)) }
+fn stands_apart(arrays: &[Array], value: Value, first: &Op, second: &Op) -> bool
+    ensures { result ≡ (list_all (λ w. not (w == value)) (reads first.now) && list_all (λ w. not (w == value)) (writes first.now) && are_apart (writes first.now) (reads second.now) && not (meet arrays.now (loaded_from second.now) (stored_to first.now))) }
 {
     is_unread(value, first)
         && is_unwritten(value, first)
         && is_apart(first, second)
-        && !(is_store(first) && is_load(second))
+        && !meet(arrays, loaded_from(second), stored_to(first))
 }
 
 /// Whether the second operation, which stands behind the first, may stand before it.
-fn may_pass(first: &Op, second: &Op) -> bool
-    ensures { result ≡ may_pass first.now second.now }
+fn may_pass(arrays: &[Array], first: &Op, second: &Op) -> bool
+    ensures { result ≡ may_pass arrays.now first.now second.now }
 {
     match result_of(second) {
-        Some(value) => stands_apart(value, first, second),
+        Some(value) => stands_apart(arrays, value, first, second),
         None => false,
     }
 }
 
 /// Whether the operation may pass each of so many.
-pub fn passes(op: &Op, place: usize, ops: &[Op]) -> bool
-    ensures { result ≡ passes op.now place ops.now }
+pub fn passes(arrays: &[Array], op: &Op, place: usize, ops: &[Op]) -> bool
+    ensures { result ≡ passes arrays.now op.now place ops.now }
 {
     if place == 0 {
         return true;
     }
     match ops.split_first() {
-        Some((first, rest)) => may_pass(first, op) && passes(op, place - 1, rest),
+        Some((first, rest)) => {
+            may_pass(arrays, first, op) && passes(arrays, op, place - 1, rest)
+        }
         None => false,
     }
 }

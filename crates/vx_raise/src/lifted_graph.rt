@@ -39,10 +39,10 @@ fn op_in(block: &Block, place: usize) -> Option<Op>
 }
 
 fn passes_in(op: &Op, graph: &Graph, block: BlockId, place: usize) -> bool
-    ensures { result ≡ passes_in op.now place (slice_get graph.now.blocks block) }
+    ensures { result ≡ passes_in graph.now.arrays op.now place (slice_get graph.now.blocks block) }
 {
     match graph.blocks.as_slice().get(block as usize) {
-        Some(found) => passes(op, place, found.ops.as_slice()),
+        Some(found) => passes(graph.arrays.as_slice(), op, place, found.ops.as_slice()),
         None => false,
     }
 }

@@ -134,7 +134,7 @@ impl Sketch {
         let ops = self.ops_at(block);
         match ops.get(place) {
             Some(op) => {
-                if block != 0 && passes(op, place, ops) {
+                if block != 0 && passes(ground.graph.arrays.as_slice(), op, place, ops) {
                     self.trial_of(ground, block, place, op)
                 } else {
                     None
@@ -187,7 +187,7 @@ impl Sketch {
     /// The same operation in the other way of the split that leads to a block, if it may be raised from both.
     fn mate_of(&self, ground: &Ground, block: BlockId, op: &Op, value: Value) -> Option<Mate> {
         let other = self.other_way(ground, block)?;
-        let mate = self.same_in(other, op)?;
+        let mate = self.same_in(ground, other, op)?;
         if other != 0 && self.all_take_in(ground, Origins { block, other }, value) {
             Some(mate)
         } else {
@@ -210,10 +210,10 @@ impl Sketch {
     }
 
     /// The same operation in a block, if it may pass those before it there.
-    fn same_in(&self, block: BlockId, op: &Op) -> Option<Mate> {
+    fn same_in(&self, ground: &Ground, block: BlockId, op: &Op) -> Option<Mate> {
         let ops = self.ops_at(block);
         for (place, there) in ops.iter().enumerate() {
-            if same_op(op, there) && passes(there, place, ops) {
+            if same_op(op, there) && passes(ground.graph.arrays.as_slice(), there, place, ops) {
                 return Some(Mate {
                     block,
                     place,

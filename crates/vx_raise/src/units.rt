@@ -48,6 +48,7 @@ impl Units {
         match op {
             Op::Compute { code, .. } => self.latency_of(*code),
             Op::Select { .. } | Op::Place { .. } | Op::Across { .. } => self.latency_alu,
+            Op::Base { .. } | Op::PlaceIn { .. } => self.latency_alu,
             Op::Load { .. } | Op::More { .. } | Op::Input { .. } => self.latency_load,
             Op::Store { .. } | Op::Text { .. } | Op::Decimal { .. } => 0,
         }
@@ -71,6 +72,7 @@ pub(crate) fn unit_of(op: &Op) -> Unit {
             _ => Unit::Alu,
         },
         Op::Select { .. } | Op::Place { .. } | Op::Across { .. } => Unit::Alu,
+        Op::Base { .. } | Op::PlaceIn { .. } => Unit::Alu,
         Op::Load { .. } | Op::Store { .. } => Unit::Memory,
         Op::More { .. } | Op::Input { .. } | Op::Text { .. } | Op::Decimal { .. } => Unit::Slot,
     }

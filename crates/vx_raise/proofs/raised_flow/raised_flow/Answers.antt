@@ -16,4 +16,5 @@ pub returns-in-Ok-true-clause-paths : goal.returns-in-Ok-true-clause-paths
 returns-in-Ok-true-clause-paths c =
     let graphs = c.in_ok-functions.functions in
     let s : Each (OrSame GraphMoved) c.args.flow.now.functions graphs = subst (λ gs. Each (OrSame GraphMoved) gs graphs) c.as_slice.ensures c.in_ok-functions.ensures in
-    once_paths c.args.flow.now c.in_ok-raised.raised graphs s c.in_ok-raised.ensures
+    let t : is_sound_flow c.in_ok-raised.raised ≡ true = sym c.in-Ok-true.ensures ∙ c.in-Ok-true.field-0-test in
+    once_paths c.args.flow.now c.in_ok-raised.raised graphs s c.in_ok-raised.ensures t
