@@ -2,6 +2,7 @@ mod Examples
 mod Standings
 mod OpsTied
 mod BlocksTied
+mod Entered
 mod RunsTied
 mod RenameRuns
 mod RenameShape
@@ -9,3 +10,4 @@ mod RenameFlow
 mod RenameWays
 pub mod Making
 mod Alls
+mod Moved

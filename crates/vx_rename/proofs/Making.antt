@@ -1,5 +1,5 @@
 -- Steps of the making of a graph under names.
-use Rattle.std.proofs.Common.{◌≡◌, ◌<◌, ◌≤◌, arith, ℕ, zero, suc, ◌==◌, Bool, true, false, cond, List, [], ◌∷◌, ◌++◌, ◌+◌, length, drop, take, length-take-le, get_or, count_by, slice_index_or, Option, Some, None, refl, sym, ap, ◌∙◌, subst, append_assoc, append-nil}
+use Rattle.std.proofs.Common.{◌≡◌, ◌<◌, ◌≤◌, arith, ℕ, zero, suc, ◌==◌, Bool, true, false, cond, List, [], ◌∷◌, ◌++◌, ◌+◌, length, drop, take, length-take-le, get_or, count_by, slice_index_or, Option, Some, None, refl, sym, ap, ◌∙◌, subst, append_assoc, append-nil, map}
 use Rattle.std.proofs.Math.Path.{fun_ext}
 use Rattle.std.proofs.lemmas.Result.{IfOk-weaker}
 use Rattle.std.specs.Prelude.{IfOk, IfSome, Result}
@@ -23,7 +23,7 @@ use Rattle.vx_flow.proofs.Copying.{grown}
 use Rattle.vx_rename.specs.declared.names.Name.{Name}
 use Rattle.vx_rename.specs.declared.names.BlockNames.{BlockNames}
 use Rattle.vx_rename.specs.declared.names.GraphNames.{GraphNames}
-use Rattle.vx_rename.specs.Renaming.{Standing, stands, nowhere, no_name, put, put_if, forget, put_all, starting, result_of, renamed_one, renamed_exit, first_name, behind_op, behind, op_if, renamed_ops, ending, leaving, renamed_block, all_stand, op_stands, ops_stand, carries, exit_stands, renamed_blocks, blocks_stand, names_at, has_counts, entry_stands, GraphRenames}
+use Rattle.vx_rename.specs.Renaming.{Standing, stands, nowhere, no_name, put, put_if, forget, put_all, starting, result_of, renamed_one, renamed_exit, first_name, behind_op, behind, op_if, renamed_ops, ending, leaving, renamed_block, all_stand, op_stands, ops_stand, carries, exit_stands, renamed_blocks, blocks_stand, names_at, parameter_name, renamed_array, has_counts, entry_stands, GraphRenames}
 use Rattle.vx_rename.specs.Making.{name_in, standing, OpMade, OpsMade, ExitLeads, ExitMade, BlockMade, BlocksMade}
 
 -- ---- what is read
@@ -183,11 +183,11 @@ blocks_last at blocks i made name past u =
     }
 
 pub graph_by : (names : GraphNames) (g h : Graph) (blocks : List Block) → has_counts names g ≡ true → entry_stands names g ≡ true → BlocksMade (names_at names.blocks) g.blocks blocks →
-    h ≡ record { blocks = blocks; banks = names.banks; parameters = names.parameters; arrays = g.arrays } → GraphRenames g h
+    h ≡ record { blocks = blocks; banks = names.banks; parameters = names.parameters; arrays = map (renamed_array (parameter_name g.parameters names.parameters)) g.arrays } → GraphRenames g h
 graph_by names g h blocks counts entry m e = record {
   names = names;
   tested = both_true counts (both_true entry m.stand);
-  is = e ∙ ap (λ l. record { blocks = l; banks = names.banks; parameters = names.parameters; arrays = g.arrays }) m.is;
+  is = e ∙ ap (λ l. record { blocks = l; banks = names.banks; parameters = names.parameters; arrays = map (renamed_array (parameter_name g.parameters names.parameters)) g.arrays }) m.is;
 }
 
 -- ---- counts

@@ -1,5 +1,5 @@
 -- An operation under names does in the new state what the old one does in the old state.
-use Rattle.std.proofs.Common.{◌≡◌, inl, inr, ℕ, ℤ, ◌==◌, Bool, true, false, cond, List, [], ◌∷◌, ◌++◌, length, map, slice_set, slice_index_or, Option, Some, None, refl, sym, ap, subst, ◌∙◌}
+use Rattle.std.proofs.Common.{◌≡◌, inl, inr, ℕ, ℤ, pos, ◌==◌, Bool, true, false, cond, List, [], ◌∷◌, ◌++◌, length, map, slice_set, slice_index_or, Option, Some, None, refl, sym, ap, subst, ◌∙◌}
 use Rattle.std.proofs.lemmas.Bool.{false≢true}
 use Rattle.std.specs.List.{flat_map}
 use Rattle.std.specs.Fmt.{signed_decimal}
@@ -7,13 +7,13 @@ use Rattle.vx_base.specs.Arithmetic.{value_of, one_if}
 use Rattle.vx_flow.specs.declared.graph.Operand.{Operand}
 use Rattle.vx_flow.specs.declared.graph.Operand.TheVariants.{Held, Number, Stack}
 use Rattle.vx_flow.specs.declared.graph.Op.{Op}
-use Rattle.vx_flow.specs.declared.graph.Op.TheVariants.{Compute, Select, Place, Load, Store, More, Input, Text, Decimal, Across}
-use Rattle.vx_flow.specs.Effects.{Content, State, Setting, held, is_unary, both, computed, is_one, chosen, place_of, row_of, cell_in, cell_of, is_left, text_at, with_value, with_cell, loaded, stored, next_input, printed, effect, value_in, reads}
+use Rattle.vx_flow.specs.declared.graph.Op.TheVariants.{Compute, Select, Place, Load, Store, More, Input, Text, Decimal, Across, Base, PlaceIn}
+use Rattle.vx_flow.specs.Effects.{Content, State, Setting, held, is_unary, both, computed, is_one, chosen, place_of, place_by, row_of, cell_in, cell_of, is_left, text_at, with_value, with_cell, loaded, stored, next_input, printed, effect, value_in, reads}
 use Rattle.vx_flow.specs.Operands.{written_by, with_value_in}
 use Rattle.vx_flow.specs.Meaning.{known}
 use Rattle.vx_flow.specs.Agree.{SameWorld}
 use Rattle.vx_flow.proofs.Members.{in_left, in_right}
-use Rattle.vx_flow.proofs.EffectsAlike.{Refined, Knows, knows_left, knows_right, held_refined, known_refined}
+use Rattle.vx_flow.proofs.EffectsAlike.{Refined, Knows, knows_left, knows_right, held_refined, known_refined, place_by_refined}
 use Rattle.vx_flow.proofs.SoundLists.{all_in}
 use Rattle.vx_rename.specs.Renaming.{Standing, stands, put, put_if, forget, forget_if, renamed_op, all_stand, writes_alone}
 use Rattle.vx_rename.proofs.Standings.{Tied, tied_written, tied_forgotten}
@@ -156,6 +156,11 @@ op_tied n w setting (Input v) s t s' same tied k e = input_done n s t s' v w s.i
 op_tied n w setting (Text m) s t s' same tied k e = out_done n s t s' (s.out ++ text_at setting m) (t.out ++ text_at setting m) same tied (ap (λ p. p ++ text_at setting m) same.out) e
 op_tied n w setting (Decimal x) s t s' same tied k e = printed_done n s t s' s.out t.out (held s x) (held t (with_value_in n.name x)) same tied same.out (seen_refined n.name s t x k) e
 op_tied n w setting (Across v u) s t s' same tied k e = value_done n s t s' v w (s.values u) (t.values (n.name u)) same tied (k u (inl refl)) e
+op_tied n w setting (Base v a x) s t s' same tied k e = value_done n s t s' v w (Some (pos (setting.spot a))) (Some (pos (setting.spot a))) same tied (λ m f. f) e
+op_tied n w setting (PlaceIn v a u i) s t s' same tied k e =
+    value_done n s t s' v w (place_by (s.values u) (held s i)) (place_by (t.values (n.name u)) (held t (with_value_in n.name i))) same tied
+    (place_by_refined (s.values u) (t.values (n.name u)) (held s i) (held t (with_value_in n.name i)) (knows_right (value_in i) (u ∷ []) s (seen n.name t) k u (inl refl))
+    (seen_refined n.name s t i (knows_left (value_in i) (u ∷ []) s (seen n.name t) k))) e
 
 -- ---- an operation that is left out
 
@@ -187,3 +192,5 @@ left_tied n setting (Input v) s t s' w same tied e = absurd (false≢true w)
 left_tied n setting (Text m) s t s' w same tied e = absurd (false≢true w)
 left_tied n setting (Decimal x) s t s' w same tied e = absurd (false≢true w)
 left_tied n setting (Across v u) s t s' w same tied e = value_left n s t s' v (s.values u) same tied e
+left_tied n setting (Base v a x) s t s' w same tied e = value_left n s t s' v (Some (pos (setting.spot a))) same tied e
+left_tied n setting (PlaceIn v a u i) s t s' w same tied e = value_left n s t s' v (place_by (s.values u) (held s i)) same tied e

@@ -15,8 +15,9 @@ use Rattle.vx_flow.specs.Sound.{targets_of}
 use Rattle.vx_lower.specs.FlowOf.{EndsBy, IsEdge, is_general, is_branch, GraphOf}
 use Rattle.vx_rename.specs.declared.names.BlockNames.{BlockNames}
 use Rattle.vx_rename.specs.declared.names.GraphNames.{GraphNames}
-use Rattle.vx_rename.specs.Renaming.{Standing, no_name, starting, renamed_exit, first_name, renamed_one, behind_op, op_if, renamed_ops, ending, leaving, renamed_block, renamed_blocks, names_at, renamed, blocks_stand, has_counts, entry_stands, is_renaming}
+use Rattle.vx_rename.specs.Renaming.{Standing, no_name, starting, renamed_exit, first_name, renamed_one, behind_op, op_if, renamed_ops, ending, leaving, renamed_block, renamed_blocks, names_at, parameter_name, renamed, blocks_stand, has_counts, entry_stands, is_renaming}
 use Rattle.vx_rename.proofs.BlocksTied.{Placed, placed}
+use Rattle.vx_rename.proofs.Entered.{same_words, same_bases}
 
 -- ---- operations and exits
 
@@ -121,7 +122,8 @@ module _ (names : GraphNames) (g : Graph) where
       let at : ℕ → BlockNames = names_at names.blocks in
       record {
         parameters = eqb-true (length names.parameters) (length g.parameters) first.0 ∙ o.parameters;
-        arrays = o.arrays;
+        arrays = same_words (parameter_name g.parameters names.parameters) g.arrays ∙ o.arrays;
+        bases = same_bases (parameter_name g.parameters names.parameters) g.arrays ∙ o.bases;
         trap_empty = λ b k e. (let f = from at g.blocks b e.block e.has in ap (λ (x : Block). x.ops) f.is ∙ none_left _ _ f.block.ops (o.trap_empty b k (record { block = f.block; has = f.has; ends = ended _ _ f.block.exit k (sym (ap (λ (x : Block). x.exit) f.is) ∙ e.ends) })));
         trap_alone = λ b c k e f. o.trap_alone b c k (old_end b k e) (old_end c k f);
         traps_last = λ b c k e l m. (let x = o.traps_last b c k (old_end b k e) l (subst (λ n. c < n) (as_many at no_name 0 g.blocks) m) in (x.0, new_end c x.0 x.1));

@@ -8,7 +8,7 @@ use Rattle.vx_flow.specs.Meaning.{at_entry, with_result}
 use Rattle.vx_flow.proofs.EffectsAlike.{Refined}
 use Rattle.vx_rename.specs.declared.names.Name.{Name}
 use Rattle.vx_rename.specs.declared.names.BlockNames.{BlockNames}
-use Rattle.vx_rename.specs.Renaming.{Standing, is_held, stands, nowhere, put, put_if, forget, forget_if, put_all, starting, renamed_result, carries, enters_at}
+use Rattle.vx_rename.specs.Renaming.{Standing, is_held, stands, nowhere, put, put_if, forget, put_all, starting, renamed_result, carries, enters_at}
 
 abbrev pub Tied : Standing → (ℕ → Content) → (ℕ → Content) → Type 0
 Tied n x y = (v : ℕ) → stands n v ≡ true → Refined (x v) (y (n.name v))

@@ -6,10 +6,11 @@ use Rattle.std.specs.List.{list_all}
 use Rattle.vx_base.specs.Outcome.{NeverFails}
 use Rattle.vx_flow.specs.declared.graph.Operand.TheVariants.{Stack}
 use Rattle.vx_flow.specs.declared.graph.Op.{Op}
-use Rattle.vx_flow.specs.declared.graph.Op.TheVariants.{Compute, Select, Place, Load, Store, More, Input, Text, Decimal, Across}
+use Rattle.vx_flow.specs.declared.graph.Op.TheVariants.{Compute, Select, Place, Load, Store, More, Input, Text, Decimal, Across, Base, PlaceIn}
 use Rattle.vx_flow.specs.declared.graph.Exit.{Exit}
 use Rattle.vx_flow.specs.declared.graph.Exit.TheVariants.{Goto, Split, Call, Return, Ends}
 use Rattle.vx_flow.specs.declared.graph.Block.{Block}
+use Rattle.vx_flow.specs.declared.graph.Array.{Array}
 use Rattle.vx_flow.specs.declared.graph.Graph.{Graph}
 use Rattle.vx_flow.specs.declared.graph.Flow.{Flow}
 use Rattle.vx_flow.specs.Effects.{reads}
@@ -83,6 +84,8 @@ renamed_op name w (Input v) = Input w
 renamed_op name w (Text n) = Text n
 renamed_op name w (Decimal x) = Decimal (with_value_in name x)
 renamed_op name w (Across v u) = Across w (name u)
+renamed_op name w (Base v a x) = Base w a x
+renamed_op name w (PlaceIn v a u i) = PlaceIn w a (name u) (with_value_in name i)
 
 abbrev pub result_of : Exit → Option ℕ
 result_of (Goto c) = None
@@ -152,8 +155,27 @@ no_names = record { start = []; written = []; result = 0 }
 abbrev pub names_at : List BlockNames → ℕ → BlockNames
 names_at names b = slice_index_or names b no_names
 
+-- the parameter of the new graph in the place of value v, where v is a parameter of the old one
+abbrev pub parameter_name : (old new : List ℕ) → ℕ → ℕ
+parameter_name [] new v = v
+parameter_name (q ∷ qs) [] v = v
+parameter_name (q ∷ qs) (r ∷ rs) v = if v == q then r else parameter_name qs rs v
+
+abbrev pub renamed_base : (ℕ → ℕ) → Option ℕ → Option ℕ
+renamed_base name None = None
+renamed_base name (Some v) = Some (name v)
+
+-- the base of an array that was handed over is a parameter, and has its name
+abbrev pub renamed_array : (ℕ → ℕ) → Array → Array
+renamed_array name array = record { words = array.words; global = array.global; named = array.named; base = renamed_base name array.base }
+
 abbrev pub renamed : GraphNames → Graph → Graph
-renamed names g = record { blocks = renamed_blocks (names_at names.blocks) no_name 0 g.blocks; banks = names.banks; parameters = names.parameters; arrays = g.arrays }
+renamed names g = record {
+  blocks = renamed_blocks (names_at names.blocks) no_name 0 g.blocks;
+  banks = names.banks;
+  parameters = names.parameters;
+  arrays = map (renamed_array (parameter_name g.parameters names.parameters)) g.arrays;
+}
 
 -- ---- the test
 
@@ -207,8 +229,22 @@ abbrev pub has_counts : GraphNames → Graph → Bool
 has_counts names g =
     (length names.parameters == length g.parameters) && (nat_le (count_by is_general names.banks) (count_by is_general g.banks) && nat_le (count_by is_branch names.banks) (count_by is_branch g.banks))
 
+-- the two hold one argument there
+abbrev pub enters_as : (old new : List ℕ) → (v w : ℕ) → Bool
+enters_as [] new v w = false
+enters_as (q ∷ qs) [] v w = false
+enters_as (q ∷ qs) (r ∷ rs) v w = if v == q then w == r else (not (w == r) && enters_as qs rs v w)
+
+-- so do a base and its name
+abbrev pub base_enters : (old new : List ℕ) → Option ℕ → Bool
+base_enters old new None = true
+base_enters old new (Some v) = enters_as old new v (parameter_name old new v)
+
+abbrev pub array_enters : (old new : List ℕ) → Array → Bool
+array_enters old new array = base_enters old new array.base
+
 abbrev pub entry_stands : GraphNames → Graph → Bool
-entry_stands names g = list_all (λ x. enters_at g.parameters names.parameters x.old x.new) (names_at names.blocks 0).start
+entry_stands names g = list_all (array_enters g.parameters names.parameters) g.arrays && list_all (λ x. enters_at g.parameters names.parameters x.old x.new) (names_at names.blocks 0).start
 
 abbrev pub is_renaming : GraphNames → Graph → Bool
 is_renaming names g = has_counts names g && (entry_stands names g && blocks_stand (names_at names.blocks) no_name 0 g.blocks)

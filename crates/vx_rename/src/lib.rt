@@ -2,6 +2,7 @@
 // does what it did, and the pass that makes a graph under names where they pass the test.
 #![tactic(auto)]
 
+mod bases;
 mod colours;
 mod kinds;
 pub mod laws;

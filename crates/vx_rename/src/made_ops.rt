@@ -80,6 +80,22 @@ fn renamed_op(names: &[Value], to: Value, op: &Op) -> Op
             to,
             from: name_of(names, *from),
         },
+        Op::Base { array, from, .. } => Op::Base {
+            to,
+            array: *array,
+            from: *from,
+        },
+        Op::PlaceIn {
+            array,
+            base,
+            index,
+            ..
+        } => Op::PlaceIn {
+            to,
+            array: *array,
+            base: name_of(names, *base),
+            index: renamed_operand(names, index),
+        },
     }
 }
 

@@ -1,7 +1,7 @@
 // Names for the values of the graphs of a flow. They are looked for and owe nothing, since they are tested.
 
 use crate::colours::colours_of;
-use crate::kinds::{BRANCH, GENERAL, PLACE, count_of, counts_of, kinds_of};
+use crate::kinds::{BASE, BRANCH, GENERAL, count_of, counts_of, kinds_of};
 use crate::names::GraphNames;
 use crate::shared_names::names_by;
 use crate::value_sets::{NONE, at, put};
@@ -123,7 +123,7 @@ fn is_roomy(counts: &[u32], rooms: &[u32]) -> bool {
     true
 }
 
-/// The room of each kind: the places of an own array get a share of the general registers by their number.
+/// The room of each kind: bases, and the places of an array that is no global, get a share of the general registers by their number.
 fn rooms_of(alloc: Global, counts: &[u32], room: Room) -> Result<Vec<u32>, NoMemory> {
     let mut rooms = vec![in alloc; 0; counts.len()]?;
     let mut all: u32 = 0;
@@ -134,7 +134,7 @@ fn rooms_of(alloc: Global, counts: &[u32], room: Room) -> Result<Vec<u32>, NoMem
     }
     let mut left = room.general;
     for (kind, count) in counts.iter().enumerate() {
-        if kind >= PLACE as usize && kind < NONE as usize && *count > 0 {
+        if kind >= BASE as usize && kind < NONE as usize && *count > 0 {
             let share = share_of(room.general, *count, all);
             put(&mut rooms, kind as u32, share);
             left = left.saturating_sub(share);

@@ -14,6 +14,8 @@ use Rattle.vx_flow.specs.declared.graph.Exit.TheVariants.{Goto, Split, Call, Ret
 use Rattle.vx_flow.specs.declared.graph.Block.{Block}
 use Rattle.vx_flow.specs.declared.graph.Graph.{Graph}
 use Rattle.vx_flow.specs.declared.graph.Flow.{Flow}
+use Rattle.vx_flow.specs.Apart.{GlobalsFirst}
+use Rattle.vx_flow.proofs.Entering.{globals_first}
 use Rattle.vx_flow.specs.Meaning.{graph_run}
 use Rattle.vx_flow.specs.Sound.{is_sound_flow, HasOperation, HasExit, Sound, SoundFlow}
 use Rattle.vx_flow.proofs.SoundLaw.{sound_is, sound_of}
@@ -23,7 +25,7 @@ use Rattle.vx_shape.specs.Flows.{with_graphs, Each}
 use Rattle.vx_shape.proofs.Pairs.{At, each_at, each_length}
 use Rattle.vx_mixed.specs.declared.mixed.MixedGraph.{MixedGraph}
 use Rattle.vx_mixed.specs.Program.{mixed_run}
-use Rattle.vx_motion.specs.Context.{Changes, Steps, Stays, Goes, BothStep, AllStep, EachOfGraph}
+use Rattle.vx_motion.specs.Context.{Changes, Steps, Stays, Goes, BothStep, AllStep, EachOfGraph, HaveGlobalsFirst}
 use Rattle.vx_motion.proofs.Chains.{steps_law}
 use Rattle.vx_motion.proofs.FromGraphs.{means_the_flow}
 use Rattle.vx_select.specs.Selected.{Diamond, numbered, led, changed, IsDiamond, converted, Selects, none_left, converts}
@@ -32,7 +34,7 @@ use Rattle.vx_select.proofs.Joined.{get_below, get_in}
 use Rattle.vx_select.proofs.Numbered.{block_at}
 use Rattle.vx_select.proofs.MixedLive.{mixed_of, of_graph}
 use Rattle.vx_select.proofs.Converts.{same_meaning}
-use Rattle.vx_select.proofs.Sounds.{new_operation, new_exit, stays_sound}
+use Rattle.vx_select.proofs.Sounds.{new_operation, new_exit, base_was, base_stays, stays_sound}
 use Rattle.vx_select.proofs.Shapes.{keeps_shape}
 use Rattle.vx_select.proofs.Kept.{Keeps, keeps_itself, keeps_on, came, new_sound}
 
@@ -77,6 +79,8 @@ module _ (live : ℕ → ℕ → Bool) (most : ℕ) (g : Graph) (d : Diamond) (s
     some = first_stays;
     texts = text_was;
     calls = call_was;
+    bases = base_was live most g d sound it;
+    bases_stay = base_stays live most g d sound it;
   }
 
 selects_keeps : (most : ℕ) (g h : Graph) → Sound g → Selects most g h → Keeps g h
@@ -126,6 +130,15 @@ module _ (old : Flow) (graphs : List Graph) (most : ℕ) (each : Each (Selects m
       (subst (BothStep latency (option_map mixed_of (slice_get old.functions f))) (sym (slice_get-map mixed_of graphs f))
       (steps_by f (slice_get old.functions f) (slice_get graphs f) refl (each_at (Selects most) old.functions graphs each f)))
 
+  first_by : (f : ℕ) (o : Option Graph) → slice_get old.functions f ≡ o → (m : MixedGraph) → option_map mixed_of o ≡ Some m → GlobalsFirst (length old.globals) m.arrays
+  first_by f None e m q = absurd (cc)
+  first_by f (Some g) e m q =
+      let r : mixed_of g ≡ m = cc in
+      subst (λ (x : MixedGraph). GlobalsFirst (length old.globals) x.arrays) r (subst (GlobalsFirst (length old.globals)) (sym (of_graph g).arrays) (globals_first old s f g e))
+
+  first_ones : HaveGlobalsFirst (length old.globals) (mixed old.functions)
+  first_ones f m e = first_by f (slice_get old.functions f) refl m (sym (slice_get-map mixed_of old.functions f) ∙ e)
+
   of_graph_by : (o : Option Graph) → EachOfGraph o (option_map mixed_of o)
   of_graph_by None = tt
   of_graph_by (Some g) = of_graph g
@@ -142,7 +155,7 @@ module _ (old : Flow) (graphs : List Graph) (most : ℕ) (each : Each (Selects m
 
     pub same_runs : NeverFails (graph_run old input) → Same (graph_run old input) (graph_run new input) × NeverFails (graph_run new input)
     same_runs safe =
-        let r = steps_law old times latency (mixed old.functions) (mixed graphs) input some_times all_steps (subst NeverFails (sym old_means) safe) in
+        let r = steps_law old times latency (mixed old.functions) (mixed graphs) input some_times first_ones all_steps (subst NeverFails (sym old_means) safe) in
         let a : Same (graph_run old input) (mixed_run old times latency (mixed graphs) input) = subst (λ x. Same x (mixed_run old times latency (mixed graphs) input)) old_means r.0 in
         (subst (Same (graph_run old input)) new_means a, subst NeverFails new_means r.1)
 

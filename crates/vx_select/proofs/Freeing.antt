@@ -9,9 +9,9 @@ use Rattle.vx_flow.specs.declared.graph.Graph.{Graph}
 use Rattle.vx_flow.specs.Rows.{is_marked}
 use Rattle.vx_flow.specs.Sound.{is_general}
 use Rattle.vx_select.specs.declared.corners.Corners.{Corners}
-use Rattle.vx_select.specs.Selected.{has, named, written, those_from, is_placed, is_free}
+use Rattle.vx_select.specs.Selected.{has, named, written, those_from, is_address, is_free}
 use Rattle.vx_select.specs.Values.{names_it, are_writing, either_writing}
-use Rattle.vx_select.specs.Known.{ArePlaced, ops_at, whole}
+use Rattle.vx_select.specs.Known.{AreAddresses, ops_at, whole}
 use Rattle.vx_select.proofs.Found.{naming_is, writing_is}
 
 below : (banks : List Bank) (v : ℕ) → is_general banks v ≡ true → v < length banks
@@ -20,7 +20,7 @@ below (x ∷ xs) zero e = omega arith
 below (x ∷ xs) (suc v) e = let h = below xs v e in omega arith
 
 -- the test goes by marks and by operations one after the other
-module _ (live : ℕ → ℕ → Bool) (g : Graph) (c : Corners) (marks : List Bool) (v : ℕ) (placed : ArePlaced g marks) where
+module _ (live : ℕ → ℕ → Bool) (g : Graph) (c : Corners) (marks : List Bool) (v : ℕ) (addresses : AreAddresses g marks) where
   abbrev general : Bool
   general = is_general g.banks v
 
@@ -73,9 +73,9 @@ module _ (live : ℕ → ℕ → Bool) (g : Graph) (c : Corners) (marks : List B
     where
       at : (b : Bool) → is_general g.banks v ≡ b →
           (b && not (live c.yes v) && not (live c.no v) && not (live c.join v) && not (has (named (ops_at g c.yes)) v) && not (has (named (ops_at g c.no)) v) && not (is_marked marks v))
-          ≡ (b && not (live c.yes v) && not (live c.no v) && not (live c.join v) && not (has (named (ops_at g c.yes)) v) && not (has (named (ops_at g c.no)) v) && not (is_placed g v))
+          ≡ (b && not (live c.yes v) && not (live c.no v) && not (live c.join v) && not (has (named (ops_at g c.yes)) v) && not (has (named (ops_at g c.no)) v) && not (is_address g v))
       at false e = refl
-      at true e = ap (λ m. true && not (live c.yes v) && not (live c.no v) && not (live c.join v) && not (has (named (ops_at g c.yes)) v) && not (has (named (ops_at g c.no)) v) && not m) (placed v (below g.banks v e))
+      at true e = ap (λ m. true && not (live c.yes v) && not (live c.no v) && not (live c.join v) && not (has (named (ops_at g c.yes)) v) && not (has (named (ops_at g c.no)) v) && not m) (addresses v (below g.banks v e))
 
 -- ---- lists of those that pass
 

@@ -1,4 +1,4 @@
--- What is new in a block behind a conversion is sound by itself, and leaves the places of own arrays alone.
+-- What is new in a block behind a conversion is sound by itself, and leaves bases and the places of arrays that are no globals alone.
 use Rattle.std.proofs.Common.{◌≡◌, ◌⊎◌, inl, inr, ℕ, Bool, true, false, cond, List, [], ◌∷◌, ◌++◌, length, map, drop, slice_get, Option, Some, None, refl, sym, ap, subst, ◌∙◌, eq-eqb}
 use Rattle.std.specs.List.{list_any}
 use Rattle.std.proofs.lemmas.Bool.{and_parts, false≢true}
@@ -10,23 +10,33 @@ use Rattle.vx_flow.specs.declared.graph.Operand.TheVariants.{Held, Number, Stack
 use Rattle.vx_flow.specs.declared.graph.Bank.{Bank}
 use Rattle.vx_flow.specs.declared.graph.Bank.TheVariants.{General, Branch}
 use Rattle.vx_flow.specs.declared.graph.Op.{Op}
-use Rattle.vx_flow.specs.declared.graph.Op.TheVariants.{Select, Place}
+use Rattle.vx_flow.specs.declared.graph.Op.TheVariants.{Select, Place, Base, PlaceIn}
 use Rattle.vx_flow.specs.declared.graph.Block.{Block}
 use Rattle.vx_flow.specs.declared.graph.Graph.{Graph}
 use Rattle.vx_flow.specs.Effects.{IsIn, is_unary, value_in, reads, writes}
 use Rattle.vx_flow.specs.Operands.{with_value_in, with_operands}
-use Rattle.vx_flow.specs.Sound.{is_bank, is_general, is_branch, is_operand, is_right, is_written, is_sound_operation, Has, HasOperation, IsAccess, IsPlace, Sound}
+use Rattle.vx_flow.specs.Sound.{is_bank, is_general, is_branch, is_operand, is_right, is_written, is_sound_operation, is_given_base, Has, HasOperation, IsAccess, MakesPlace, IsPlace, in_own, in_handed, IsBase, given, made, Sound}
 use Rattle.vx_flow.proofs.Members.{in_left, in_right, in_either}
-use Rattle.vx_flow.proofs.SoundLists.{in_one, any_of}
+use Rattle.vx_flow.proofs.SoundLists.{in_one, or_left, or_right, any_of}
 use Rattle.vx_flow.proofs.SoundNames.{general_of, tests_are, operation_of}
-use Rattle.vx_select.specs.Selected.{Diamond, has, written, is_place_of, is_placed, is_free, left_takes, right_takes, writing_to, after_write, moved, as_is, choice, choices, both_sides, IsDiamond}
+use Rattle.vx_flow.proofs.SoundLaw.{place_general, base_general}
+use Rattle.vx_flow.proofs.SoundFlowLaw.{given_base_of}
+use Rattle.vx_select.specs.Selected.{Diamond, has, written, makes_address, is_address, is_free, left_takes, right_takes, writing_to, after_write, moved, as_is, choice, choices, both_sides, IsDiamond}
 use Rattle.vx_select.proofs.Lists.{has_in, has_not, takes_off}
 use Rattle.vx_select.proofs.Sides.{Simple, computes, chooses, target}
 use Rattle.vx_select.proofs.Joined.{free_is, in_free, F, L, R, C, left_free, right_free, Side, the_left, the_right, operation, is_one_of, values_in, in_values, writes_it, in_mapped, mapped_from, chosen_is, chosen_general, split_test}
 
-simple_no_place : (op : Op) (v a : ℕ) (i : Operand) → Simple op → op ≡ Place v a i → ⊥
-simple_no_place op v a i computes e = cc
-simple_no_place op v a i chooses e = cc
+simple_makes_none : (op : Op) (v a : ℕ) → Simple op → MakesPlace v a op → ⊥
+simple_makes_none op v a computes m = elim m [ ]
+simple_makes_none op v a chooses m = elim m [ ]
+
+simple_no_place_in : (op : Op) (w a v : ℕ) (i : Operand) → Simple op → op ≡ PlaceIn w a v i → ⊥
+simple_no_place_in op w a v i computes e = cc
+simple_no_place_in op w a v i chooses e = cc
+
+simple_no_base : (op : Op) (v a : ℕ) (x : Operand) → Simple op → op ≡ Base v a x → ⊥
+simple_no_base op v a x computes e = cc
+simple_no_base op v a x chooses e = cc
 
 no_access : (op : Op) (a : ℕ) (p : Operand) → Simple op → IsAccess a p op → ⊥
 no_access op a p computes h = elim h [ ]
@@ -98,16 +108,36 @@ module _ (live : ℕ → ℕ → Bool) (most : ℕ) (g : Graph) (d : Diamond) (s
   free_general : (v : ℕ) → IsFree v → is_general g.banks v ≡ true
   free_general v f = (free_is live most g d sound it v f).general
 
-  -- ---- a place of an own array
+  -- ---- places and bases
 
-  placed_is : (v a : ℕ) → IsPlace g v a → is_placed g v ≡ true
-  placed_is v a place =
-      let made = place.made in
-      let inside : list_any (is_place_of g.arrays v) made.block.ops ≡ true = any_of (is_place_of g.arrays v) made.block.ops (Place v a place.index) made.stands (both_true (eq-eqb v v refl) place.own) in
-      any_of (λ (block : Block). list_any (is_place_of g.arrays v) block.ops) g.blocks made.block made.has inside
+  -- the value is a place of an array that is no global, or a base
+  pub data IsAddress (v : ℕ) : Type 0 where
+    in_array : (a : ℕ) → IsPlace g v a → IsAddress v
+    as_base : IsBase g v → IsAddress v
 
-  placed_not_free : (v a : ℕ) → IsPlace g v a → IsFree v → ⊥
-  placed_not_free v a place f = false≢true (sym (free_is live most g d sound it v f).unplaced ∙ placed_is v a place)
+  made_here : (v : ℕ) (op : Op) → HasOperation g op → makes_address g.arrays v op ≡ true → is_address g v ≡ true
+  made_here v op at h =
+      or_left (list_any (λ (block : Block). list_any (makes_address g.arrays v) block.ops) g.blocks) (is_given_base g v)
+      (any_of (λ (block : Block). list_any (makes_address g.arrays v) block.ops) g.blocks at.block at.has (any_of (makes_address g.arrays v) at.block.ops op at.stands h))
+
+  place_is : (v a : ℕ) → IsPlace g v a → is_address g v ≡ true
+  place_is v a (in_own i at own) = made_here v (Place v a i) at (both_true (eq-eqb v v refl) own)
+  place_is v a (in_handed u i at) = made_here v (PlaceIn v a u i) at (eq-eqb v v refl)
+
+  base_is : (v : ℕ) → IsBase g v → is_address g v ≡ true
+  base_is v (given a e) = or_right (list_any (λ (block : Block). list_any (makes_address g.arrays v) block.ops) g.blocks) (is_given_base g v) (given_base_of g v (record { array = a; base = e }))
+  base_is v (made a x at) = made_here v (Base v a x) at (eq-eqb v v refl)
+
+  address_is : (v : ℕ) → IsAddress v → is_address g v ≡ true
+  address_is v (in_array a place) = place_is v a place
+  address_is v (as_base base) = base_is v base
+
+  address_general : (v : ℕ) → IsAddress v → Has g v General
+  address_general v (in_array a place) = place_general g v a sound place
+  address_general v (as_base base) = base_general g v sound base
+
+  not_free : (v : ℕ) → IsAddress v → IsFree v → ⊥
+  not_free v address f = false≢true (sym (free_is live most g d sound it v f).no_address ∙ address_is v address)
 
   module _ (b : ℕ) (ops : List Op) (side : Side live most g d sound it b ops) where
     abbrev at : (op : Op) → IsIn op ops → HasOperation g op
@@ -116,22 +146,26 @@ module _ (live : ℕ → ℕ → Bool) (most : ℕ) (g : Graph) (d : Diamond) (s
     simple_at : (op : Op) → IsIn op ops → Simple op × Has g (target op) General
     simple_at op m = is_one_of live most g d sound it b ops side op m
 
-    placed_unread : (v a : ℕ) → IsPlace g v a → (op : Op) → IsIn op ops → IsIn v (reads op) → ⊥
-    placed_unread v a place op m n = no_access op a (Held v) (simple_at op m).0 (sound.place_read v a op place (at op m) n).access
+    address_unread : (v : ℕ) → IsAddress v → (op : Op) → IsIn op ops → IsIn v (reads op) → ⊥
+    address_unread v (in_array a place) op m n = no_access op a (Held v) (simple_at op m).0 (sound.place_read v a op place (at op m) n).access
+    address_unread v (as_base base) op m n = let r = sound.base_read v op base (at op m) n in simple_no_place_in op r.0 r.1 v r.2 (simple_at op m).0 r.3
 
-    placed_unwritten : (v a : ℕ) → IsPlace g v a → IsIn v (written ops) → ⊥
-    placed_unwritten v a place n =
+    address_unwritten : (v : ℕ) → IsAddress v → IsIn v (written ops) → ⊥
+    address_unwritten v address n =
         let f = mapped_from writes ops v n in
-        let p = sound.place_written v a f.op place (at f.op f.stands) f.has in
-        simple_no_place f.op v a p.0 (simple_at f.op f.stands).0 p.1
+        by address f.op (at f.op f.stands) f.has (simple_at f.op f.stands).0
+      where
+        by : IsAddress v → (op : Op) → HasOperation g op → IsIn v (writes op) → Simple op → ⊥
+        by (in_array a place) op there w s = simple_makes_none op v a s (sound.place_written v a op place there w)
+        by (as_base base) op there w s = let r = sound.base_written v op base there w in simple_no_base op v r.0 r.1 s r.2
 
   -- ---- an operation that is new
 
   pub record Fresh (op : Op) : Type 0 where
     pub names : is_sound_operation g.banks (length g.arrays) op ≡ true
     pub simple : Simple op
-    pub writes_none : (v a : ℕ) → IsPlace g v a → IsIn v (writes op) → ⊥
-    pub reads_none : (v a : ℕ) → IsPlace g v a → IsIn v (reads op) → ⊥
+    pub writes_none : (v : ℕ) → IsAddress v → IsIn v (writes op) → ⊥
+    pub reads_none : (v : ℕ) → IsAddress v → IsIn v (reads op) → ⊥
 
   abbrev Good : (ℕ → ℕ) → Type 0
   Good now = (u : ℕ) → (now u ≡ u) ⊎ IsFree (now u)
@@ -145,18 +179,18 @@ module _ (live : ℕ → ℕ → Bool) (most : ℕ) (g : Graph) (d : Diamond) (s
   operand_now now good Stack h = h
 
   module _ (b : ℕ) (ops : List Op) (side : Side live most g d sound it b ops) (to : ℕ → ℕ) (frees : (w : ℕ) → IsIn w (written ops) → IsFree (to w)) where
-    stood_unplaced : (now : ℕ → ℕ) → Good now → (v a : ℕ) → IsPlace g v a → (op : Op) → IsIn op ops → Stood now (reads op) v → ⊥
-    stood_unplaced now good v a place op m s = by (good s.value)
+    stood_elsewhere : (now : ℕ → ℕ) → Good now → (v : ℕ) → IsAddress v → (op : Op) → IsIn op ops → Stood now (reads op) v → ⊥
+    stood_elsewhere now good v address op m s = by (good s.value)
       where
         by : (now s.value ≡ s.value) ⊎ IsFree (now s.value) → ⊥
-        by (inl e) = placed_unread b ops side v a place op m (subst (λ x. IsIn x (reads op)) (sym (s.is ∙ e)) s.stands)
-        by (inr f) = placed_not_free v a place (subst IsFree (sym s.is) f)
+        by (inl e) = address_unread b ops side v address op m (subst (λ x. IsIn x (reads op)) (sym (s.is ∙ e)) s.stands)
+        by (inr f) = not_free v address (subst IsFree (sym s.is) f)
 
     taken_fresh : (now : ℕ → ℕ) → Good now → (op : Op) → IsIn op ops → Fresh (writing_to to (with_operands (with_value_in now) op))
     taken_fresh now good op m = by op (simple_at b ops side op m).0 (simple_at b ops side op m).1 (named_is op (at b ops side op m)) (frees (target op) (in_mapped writes ops op (target op) m (writes_it live most g d sound it b ops side op (simple_at b ops side op m).0)))
-        (λ v a place s. stood_unplaced now good v a place op m s)
+        (λ v address s. stood_elsewhere now good v address op m s)
       where
-        by : (o : Op) → Simple o → Has g (target o) General → is_sound_operation g.banks (length g.arrays) o ≡ true → IsFree (to (target o)) → ((v a : ℕ) → IsPlace g v a → Stood now (reads o) v → ⊥) →
+        by : (o : Op) → Simple o → Has g (target o) General → is_sound_operation g.banks (length g.arrays) o ≡ true → IsFree (to (target o)) → ((v : ℕ) → IsAddress v → Stood now (reads o) v → ⊥) →
             Fresh (writing_to to (with_operands (with_value_in now) o))
         by o (computes {code} {v} {a = x} {b = y}) general h f n =
             let (ab, c) = and_parts _ _ h in
@@ -164,8 +198,8 @@ module _ (live : ℕ → ℕ → Bool) (most : ℕ) (g : Graph) (d : Diamond) (s
             record {
               names = both_true (both_true (written_kept g.banks code v (to v) wr (general_of g v general) (free_general (to v) f)) (operand_now now good x left)) (right_kept g.banks code y (with_value_in now y) c (operand_now now good y));
               simple = computes;
-              writes_none = λ u a place k. placed_not_free u a place (subst IsFree (sym (in_one u (to v) k)) f);
-              reads_none = λ u a place k. n u a place (computed_from now (is_unary code) x y u k);
+              writes_none = λ u address k. not_free u address (subst IsFree (sym (in_one u (to v) k)) f);
+              reads_none = λ u address k. n u address (computed_from now (is_unary code) x y u k);
             }
         by o (chooses {v} {p} {a = x} {b = y}) general h f n =
             let (abc, right) = and_parts _ _ h in
@@ -174,19 +208,19 @@ module _ (live : ℕ → ℕ → Bool) (most : ℕ) (g : Graph) (d : Diamond) (s
             record {
               names = both_true (both_true (both_true (free_general (to v) f) test) (operand_now now good x left)) (operand_now now good y right);
               simple = chooses;
-              writes_none = λ u a place k. placed_not_free u a place (subst IsFree (sym (in_one u (to v) k)) f);
-              reads_none = λ u a place k. reads_by u a place k;
+              writes_none = λ u address k. not_free u address (subst IsFree (sym (in_one u (to v) k)) f);
+              reads_none = λ u address k. reads_by u address k;
             }
           where
             is_branch_value : Has g p Branch
             is_branch_value = tests_are g (Select v p x y) p h (inl refl)
 
-            reads_by : (u a : ℕ) → IsPlace g u a → IsIn u (p ∷ (value_in (with_value_in now x) ++ value_in (with_value_in now y))) → ⊥
-            reads_by u a place (inl e) =
-                let q : slice_get g.banks u ≡ Some General = sound.results (Place u a place.index) u place.made (inl refl) in
+            reads_by : (u : ℕ) → IsAddress u → IsIn u (p ∷ (value_in (with_value_in now x) ++ value_in (with_value_in now y))) → ⊥
+            reads_by u address (inl e) =
+                let q : slice_get g.banks u ≡ Some General = address_general u address in
                 let r : slice_get g.banks u ≡ Some Branch = subst (λ z. Has g z Branch) (sym e) is_branch_value in
                 absurd (cc)
-            reads_by u a place (inr k) = n u a place (let s = two_from now x y u k in record { value = s.value; stands = inr s.stands; is = s.is })
+            reads_by u address (inr k) = n u address (let s = two_from now x y u k in record { value = s.value; stands = inr s.stands; is = s.is })
 
     after_good : (now : ℕ → ℕ) → Good now → (op : Op) → IsIn op ops → Good (after_write to (writes op) now)
     after_good now good op m u = by (has (writes op) u) refl
@@ -224,19 +258,19 @@ module _ (live : ℕ → ℕ → Bool) (most : ℕ) (g : Graph) (d : Diamond) (s
   abbrev the_choice : ℕ → Op
   the_choice v = choice (left_takes live g d) (right_takes live g d) d.test v
 
-  chosen_unplaced : (v a : ℕ) → IsPlace g v a → IsIn v (C live most g d sound it) → ⊥
-  chosen_unplaced v a place m = by (chosen_is live most g d sound it v m).by_one
+  chosen_elsewhere : (v : ℕ) → IsAddress v → IsIn v (C live most g d sound it) → ⊥
+  chosen_elsewhere v address m = by (chosen_is live most g d sound it v m).by_one
     where
       by : IsIn v (written d.left) ⊎ IsIn v (written d.right) → ⊥
-      by (inl n) = placed_unwritten d.yes d.left (the_left live most g d sound it) v a place n
-      by (inr n) = placed_unwritten d.no d.right (the_right live most g d sound it) v a place n
+      by (inl n) = address_unwritten d.yes d.left (the_left live most g d sound it) v address n
+      by (inr n) = address_unwritten d.no d.right (the_right live most g d sound it) v address n
 
-  good_unplaced : (now : ℕ → ℕ) → Good now → (u v a : ℕ) → IsPlace g u a → IsIn v (C live most g d sound it) → u ≡ now v → ⊥
-  good_unplaced now good u v a place m e = by (good v)
+  good_elsewhere : (now : ℕ → ℕ) → Good now → (u v : ℕ) → IsAddress u → IsIn v (C live most g d sound it) → u ≡ now v → ⊥
+  good_elsewhere now good u v address m e = by (good v)
     where
       by : (now v ≡ v) ⊎ IsFree (now v) → ⊥
-      by (inl q) = chosen_unplaced v a (subst (λ x. IsPlace g x a) (e ∙ q) place) m
-      by (inr f) = placed_not_free u a place (subst IsFree (sym e) f)
+      by (inl q) = chosen_elsewhere v (subst IsAddress (e ∙ q) address) m
+      by (inr f) = not_free u address (subst IsFree (sym e) f)
 
   choice_fresh : (v : ℕ) → IsIn v (C live most g d sound it) → Fresh (the_choice v)
   choice_fresh v m =
@@ -245,18 +279,18 @@ module _ (live : ℕ → ℕ → Bool) (most : ℕ) (g : Graph) (d : Diamond) (s
       record {
         names = both_true (both_true (both_true general (branch_of g d.test test)) (general_now (left_takes live g d) left_good v general)) (general_now (right_takes live g d) right_good v general);
         simple = chooses;
-        writes_none = λ u a place k. chosen_unplaced v a (subst (λ x. IsPlace g x a) (in_one u v k) place) m;
-        reads_none = λ u a place k. reads_by u a place k;
+        writes_none = λ u address k. chosen_elsewhere v (subst IsAddress (in_one u v k) address) m;
+        reads_none = λ u address k. reads_by u address k;
       }
     where
-      reads_by : (u a : ℕ) → IsPlace g u a → IsIn u (d.test ∷ left_takes live g d v ∷ right_takes live g d v ∷ []) → ⊥
-      reads_by u a place (inl e) =
-          let q : slice_get g.banks u ≡ Some General = sound.results (Place u a place.index) u place.made (inl refl) in
+      reads_by : (u : ℕ) → IsAddress u → IsIn u (d.test ∷ left_takes live g d v ∷ right_takes live g d v ∷ []) → ⊥
+      reads_by u address (inl e) =
+          let q : slice_get g.banks u ≡ Some General = address_general u address in
           let r : slice_get g.banks u ≡ Some Branch = subst (λ z. Has g z Branch) (sym e) (split_test live most g d sound it) in
           absurd (cc)
-      reads_by u a place (inr (inl e)) = good_unplaced (left_takes live g d) left_good u v a place m e
-      reads_by u a place (inr (inr (inl e))) = good_unplaced (right_takes live g d) right_good u v a place m e
-      reads_by u a place (inr (inr (inr z))) = z
+      reads_by u address (inr (inl e)) = good_elsewhere (left_takes live g d) left_good u v address m e
+      reads_by u address (inr (inr (inl e))) = good_elsewhere (right_takes live g d) right_good u v address m e
+      reads_by u address (inr (inr (inr z))) = z
 
   choices_fresh : (vs : List ℕ) → ((v : ℕ) → IsIn v vs → IsIn v (C live most g d sound it)) → (op : Op) → IsIn op (map the_choice vs) → Fresh op
   choices_fresh [] sub op m = absurd m

@@ -7,7 +7,7 @@ use Rattle.std.proofs.lemmas.Bool.{and_parts, false≢true}
 use Rattle.std.specs.Cmp.Derive.{both_true}
 use Rattle.vx_flow.specs.declared.graph.Bank.TheVariants.{General, Branch}
 use Rattle.vx_flow.specs.declared.graph.Op.{Op}
-use Rattle.vx_flow.specs.declared.graph.Op.TheVariants.{Compute, Select, Place, Load, Store, More, Input, Text, Decimal, Across}
+use Rattle.vx_flow.specs.declared.graph.Op.TheVariants.{Compute, Select, Place, Load, Store, More, Input, Text, Decimal, Across, Base, PlaceIn}
 use Rattle.vx_flow.specs.declared.graph.Exit.TheVariants.{Goto, Split}
 use Rattle.vx_flow.specs.declared.graph.Graph.{Graph}
 use Rattle.vx_flow.specs.Effects.{Content, State, IsIn, is_one, chosen, reads, writes}
@@ -15,7 +15,7 @@ use Rattle.vx_flow.specs.Sound.{is_general, Has, HasOperation, Sound}
 use Rattle.vx_flow.proofs.Members.{in_left, in_right, in_either}
 use Rattle.vx_flow.proofs.SoundLists.{all_in, or_parts, or_left, or_right}
 use Rattle.vx_flow.proofs.SoundNames.{general_is}
-use Rattle.vx_select.specs.Selected.{Diamond, has, values_of, written, named, is_simple, is_placed, is_free, free_values, left_values, right_values, chosen_values, left_takes, right_takes, moved, as_is, choices, both_sides, IsDiamond}
+use Rattle.vx_select.specs.Selected.{Diamond, has, values_of, written, named, is_simple, is_address, is_free, free_values, left_values, right_values, chosen_values, left_takes, right_takes, moved, as_is, choices, both_sides, IsDiamond}
 use Rattle.vx_select.proofs.Lists.{in_has, has_in, has_not, those_pass, pass_those, Distinct, those_distinct, in_drop, in_take, drop_distinct, front_apart, drop_room, takes_off, takes_in, takes_one}
 use Rattle.vx_select.proofs.Sides.{Simple, computes, chooses, AllSimple, target, steps, steps_append, simple_append, steps_unwritten, Fine, AllFine, moved_same, moved_simple, fine_simple, moved_elsewhere, choosing_simple, unchosen, choosing_gives}
 
@@ -40,6 +40,8 @@ simple_is g (Input v) h = absurd (false≢true h)
 simple_is g (Text n) h = absurd (false≢true h)
 simple_is g (Decimal x) h = absurd (false≢true h)
 simple_is g (Across v w) h = absurd (false≢true h)
+simple_is g (Base v a x) h = absurd (false≢true h)
+simple_is g (PlaceIn v a u i) h = absurd (false≢true h)
 
 pub in_mapped : (f : Op → List ℕ) (ops : List Op) (op : Op) (v : ℕ) → IsIn op ops → IsIn v (f op) → IsIn v (flat_map f ops)
 in_mapped f [] op v m n = absurd m
@@ -92,7 +94,7 @@ module _ (live : ℕ → ℕ → Bool) (most : ℕ) (g : Graph) (d : Diamond) (s
     pub not_join : live d.join v ≡ false
     pub not_left : has (named d.left) v ≡ false
     pub not_right : has (named d.right) v ≡ false
-    pub unplaced : is_placed g v ≡ false
+    pub no_address : is_address g v ≡ false
 
   pub free_is : (v : ℕ) → is_free live g d v ≡ true → Free v
   free_is v h =
@@ -102,7 +104,7 @@ module _ (live : ℕ → ℕ → Bool) (most : ℕ) (g : Graph) (d : Diamond) (s
       let (abc, g4) = and_parts _ _ abcd in
       let (ab, g3) = and_parts _ _ abc in
       let (a, g2) = and_parts _ _ ab in
-      record { general = a; not_yes = unset _ g2; not_no = unset _ g3; not_join = unset _ g4; not_left = unset _ g5; not_right = unset _ g6; unplaced = unset _ g7 }
+      record { general = a; not_yes = unset _ g2; not_no = unset _ g3; not_join = unset _ g4; not_left = unset _ g5; not_right = unset _ g6; no_address = unset _ g7 }
 
   pub in_free : (v : ℕ) → IsIn v F → is_free live g d v ≡ true
   in_free v m = (those_pass (is_free live g d) 0 (length g.banks) v m).passes

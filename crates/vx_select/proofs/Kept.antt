@@ -7,7 +7,7 @@ use Rattle.vx_flow.specs.declared.graph.Array.{Array}
 use Rattle.vx_flow.specs.declared.graph.Graph.{Graph}
 use Rattle.vx_flow.specs.declared.graph.Flow.{Flow}
 use Rattle.vx_flow.specs.Effects.{IsIn}
-use Rattle.vx_flow.specs.Sound.{HasOperation, HasExit, Callable, HasGlobal, Sound, SoundFlow}
+use Rattle.vx_flow.specs.Sound.{base_at, HasOperation, HasExit, IsBase, Callable, IsBaseOperand, base, IsGivenBase, HasGlobal, Sound, SoundFlow}
 use Rattle.vx_shape.specs.Flows.{with_graphs, Each}
 use Rattle.vx_shape.proofs.Pairs.{At, each_at}
 use Rattle.vx_select.proofs.Joined.{get_in}
@@ -21,6 +21,8 @@ pub record Keeps (old new : Graph) : Type 0 where
   pub some : 0 < length old.blocks → 0 < length new.blocks
   pub texts : (n : ℕ) → HasOperation new (Text n) → HasOperation old (Text n)
   pub calls : (f next : ℕ) (arguments : List Operand) (result : Option ℕ) → HasExit new (Call f arguments result next) → (c : ℕ) × HasExit old (Call f arguments result c)
+  pub bases : (v : ℕ) → IsBase new v → IsBase old v
+  pub bases_stay : (v : ℕ) → IsBase old v → IsBase new v
 
 pub keeps_itself : (g : Graph) → Sound g → Keeps g g
 keeps_itself g s = record {
@@ -30,6 +32,8 @@ keeps_itself g s = record {
   some = λ h. h;
   texts = λ n at. at;
   calls = λ f next arguments result at. (next, at);
+  bases = λ v b. b;
+  bases_stay = λ v b. b;
 }
 
 pub keeps_on : (x y z : Graph) → Keeps x y → Keeps y z → Keeps x z
@@ -40,7 +44,23 @@ keeps_on x y z a b = record {
   some = λ h. b.some (a.some h);
   texts = λ n at. a.texts n (b.texts n at);
   calls = λ f next arguments result at. (let c = b.calls f next arguments result at in a.calls f c.0 arguments result c.1);
+  bases = λ v k. a.bases v (b.bases v k);
+  bases_stay = λ v k. b.bases_stay v (a.bases_stay v k);
 }
+
+-- what is handed over is a base, and what is a given base, in both graphs
+
+operand_was : (x : Operand) (old new : Graph) → Keeps old new → IsBaseOperand new x → IsBaseOperand old x
+operand_was x old new k (base {v} b) = base (k.bases v b)
+
+operand_stays : (x : Operand) (old new : Graph) → Keeps old new → IsBaseOperand old x → IsBaseOperand new x
+operand_stays x old new k (base {v} b) = base (k.bases_stay v b)
+
+given_was : (p : ℕ) (old new : Graph) → Keeps old new → IsGivenBase new p → IsGivenBase old p
+given_was p old new k b = record { array = b.array; base = subst (λ (l : List Array). base_at l b.array ≡ Some p) k.arrays b.base }
+
+given_stays : (p : ℕ) (old new : Graph) → Keeps old new → IsGivenBase old p → IsGivenBase new p
+given_stays p old new k b = record { array = b.array; base = subst (λ (l : List Array). base_at l b.array ≡ Some p) (sym k.arrays) b.base }
 
 module _ (R : Graph → Graph → Type 0) (kept : (g h : Graph) → Sound g → R g h → Keeps g h) (old : Flow) (graphs : List Graph) (each : Each R old.functions graphs) (s : SoundFlow old) where
   abbrev new : Flow
@@ -105,6 +125,12 @@ module _ (R : Graph → Graph → Type 0) (kept : (g h : Graph) → Sound g → 
         let o = (came_in g m).1 in
         let c = o.keeps.calls f next arguments result at in
         there f (length arguments) (s.calls o.graph f c.0 arguments result (old_in (came_in g m).0 g o) c.1);
+    handed = λ g h f next k p arguments result x m at e a q.
+        let o = (came_in g m).1 in
+        let c = o.keeps.calls f next arguments result at in
+        let to = came f h e in
+        let t = s.handed o.graph to.graph f c.0 k p arguments result x (old_in (came_in g m).0 g o) c.1 to.is a (subst (λ (l : List ℕ). slice_get l k ≡ Some p) to.keeps.parameters q) in
+        (λ b. given_stays p to.graph h to.keeps (t.0 (operand_was x o.graph g o.keeps b)), λ b. operand_stays x o.graph g o.keeps (t.1 (given_was p to.graph h to.keeps b)));
     texts = λ g n m at. let o = (came_in g m).1 in s.texts o.graph n (old_in (came_in g m).0 g o) (o.keeps.texts n at);
     globals = λ g i x m e. let o = (came_in g m).1 in subst (λ (l : List Array). HasGlobal l i x.words) (sym o.keeps.arrays) (s.globals o.graph i x (old_in (came_in g m).0 g o) e);
     own = λ g i array m e far. let o = (came_in g m).1 in s.own o.graph i array (old_in (came_in g m).0 g o) (subst (λ (l : List Array). slice_get l i ≡ Some array) o.keeps.arrays e) far;

@@ -22,3 +22,4 @@ pub mod Gone
 pub mod Joins
 pub mod Steps
 pub mod Exactly
+pub mod Marked

@@ -12,15 +12,15 @@ use Rattle.vx_base.specs.declared.outcome.Trap.{Trap}
 use Rattle.vx_flow.specs.declared.graph.Bank.{Bank}
 use Rattle.vx_flow.specs.declared.graph.Bank.TheVariants.{General, Branch}
 use Rattle.vx_flow.specs.declared.graph.Op.{Op}
-use Rattle.vx_flow.specs.declared.graph.Op.TheVariants.{Compute, Place, Text, Across}
+use Rattle.vx_flow.specs.declared.graph.Op.TheVariants.{Compute, Place, Text, Across, Base, PlaceIn}
 use Rattle.vx_flow.specs.declared.graph.Exit.{Exit}
-use Rattle.vx_flow.specs.declared.graph.Exit.TheVariants.{Call}
+use Rattle.vx_flow.specs.declared.graph.Exit.TheVariants.{Call, Return}
 use Rattle.vx_flow.specs.declared.graph.Operand.{Operand}
 use Rattle.vx_flow.specs.declared.graph.Operand.TheVariants.{Held, Number, Stack}
 use Rattle.vx_flow.specs.declared.graph.Graph.{Graph}
 use Rattle.vx_flow.specs.declared.graph.Flow.{Flow}
 use Rattle.vx_flow.specs.Meaning.{Body, Program, body_of, program_of, program_run, at_start, globals_at_start, graph_run}
-use Rattle.vx_flow.specs.Sound.{bank_written, Has, IsOperandOf, HasOperation, HasExit, IsPlace, Sound, SoundFlow}
+use Rattle.vx_flow.specs.Sound.{bank_written, Has, IsOperandOf, HasOperation, HasExit, IsPlace, in_own, in_handed, IsBase, given, made, Sound, SoundFlow}
 use Rattle.vx_flow.proofs.SoundFlowLaw.{flow_is, flow_of}
 use Rattle.vx_lower.specs.FlowOf.{EndsBy, is_general, is_branch, GraphOf}
 use Rattle.vx_shape.specs.Flows.{with_graphs, Each}
@@ -55,10 +55,20 @@ module _ (g : Graph) (more : List Bank) where
   exit_old x at = record { block = at.block; has = at.has; ends = at.ends }
 
   place_old : (v a : ℕ) → IsPlace padded v a → IsPlace g v a
-  place_old v a p = record { index = p.index; made = as_old (Place v a p.index) p.made; own = p.own }
+  place_old v a (in_own i at own) = in_own i (as_old (Place v a i) at) own
+  place_old v a (in_handed u i at) = in_handed u i (as_old (PlaceIn v a u i) at)
 
   place_new : (v a : ℕ) → IsPlace g v a → IsPlace padded v a
-  place_new v a p = record { index = p.index; made = as_new (Place v a p.index) p.made; own = p.own }
+  place_new v a (in_own i at own) = in_own i (as_new (Place v a i) at) own
+  place_new v a (in_handed u i at) = in_handed u i (as_new (PlaceIn v a u i) at)
+
+  base_old : (v : ℕ) → IsBase padded v → IsBase g v
+  base_old v (given a e) = given a e
+  base_old v (made a x at) = made a x (as_old (Base v a x) at)
+
+  base_new : (v : ℕ) → IsBase g v → IsBase padded v
+  base_new v (given a e) = given a e
+  base_new v (made a x at) = made a x (as_new (Base v a x) at)
 
   placed_new : (a : ℕ) (p : Operand) → ((n : ℤ) × (p ≡ Number n)) ⊎ ((v : ℕ) × (p ≡ Held v) × IsPlace g v a) → ((n : ℤ) × (p ≡ Number n)) ⊎ ((v : ℕ) × (p ≡ Held v) × IsPlace padded v a)
   placed_new a p (inl q) = inl q
@@ -76,11 +86,21 @@ module _ (g : Graph) (more : List Bank) where
     exit_tests = λ exit v at m. has_more v Branch (s.exit_tests exit v (exit_old exit at) m);
     targets = λ exit c at m. s.targets exit c (exit_old exit at) m;
     no_across = λ v u at. s.no_across v u (as_old (Across v u) at);
+    base_from = λ v a x at. (let m = s.base_from v a x (as_old (Base v a x) at) in record { array = m.array; is = m.is; bare = m.bare; from = m.from });
+    place_bare = λ v a i at. s.place_bare v a i (as_old (Place v a i) at);
+    place_base = λ v a u i at. s.place_base v a u i (as_old (PlaceIn v a u i) at);
     place_written = λ v a op place at m. s.place_written v a op (place_old v a place) (as_old op at) m;
     place_read = λ v a op place at m. s.place_read v a op (place_old v a place) (as_old op at) m;
     place_parameter = λ v a place m. s.place_parameter v a (place_old v a place) m;
     place_exit = λ v a exit place at m. s.place_exit v a exit (place_old v a place) (exit_old exit at) m;
     placed = λ a p op at access own. placed_new a p (s.placed a p op (as_old op at) access own);
+    placed_by = λ a u p op at access e. (let q = s.placed_by a u p op (as_old op at) access e in (q.0, q.1, place_new q.0 a q.2));
+    handed = λ a v array e b. s.handed a v array e b;
+    base_written = λ v op base at m. s.base_written v op (base_old v base) (as_old op at) m;
+    base_parameter = λ v a x at m. s.base_parameter v a x (as_old (Base v a x) at) m;
+    base_read = λ v op base at m. s.base_read v op (base_old v base) (as_old op at) m;
+    base_result = λ v exit base at m. s.base_result v exit (base_old v base) (exit_old exit at) m;
+    base_returned = λ v x base at e. s.base_returned v x (base_old v base) (exit_old (Return x) at) e;
     moves = λ v a b at. s.moves v a b (as_old (Compute Mov v a b) at);
   }
 
@@ -92,6 +112,8 @@ module _ (g : Graph) (more : List Bank) where
     some = λ h. h;
     texts = λ n at. as_old (Text n) at;
     calls = λ f next arguments result at. (next, exit_old (Call f arguments result next) at);
+    bases = base_old;
+    bases_stay = base_new;
   }
 
   abbrev end_old : (b : ℕ) (k : Trap) → EndsBy padded b k → EndsBy g b k
@@ -107,6 +129,7 @@ module _ (g : Graph) (more : List Bank) where
   padded_shape p f general branch o = record {
     parameters = o.parameters;
     arrays = o.arrays;
+    bases = o.bases;
     trap_empty = λ b k e. o.trap_empty b k (end_old b k e);
     trap_alone = λ b c k e h. o.trap_alone b c k (end_old b k e) (end_old c k h);
     traps_last = λ b c k e l m. last_new c (o.traps_last b c k (end_old b k e) l m);

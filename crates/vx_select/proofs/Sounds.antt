@@ -6,20 +6,20 @@ use Rattle.vx_base.specs.declared.arithmetic.Code.TheVariants.{Mov}
 use Rattle.vx_flow.specs.declared.graph.Operand.{Operand}
 use Rattle.vx_flow.specs.declared.graph.Operand.TheVariants.{Held, Number, Stack}
 use Rattle.vx_flow.specs.declared.graph.Op.{Op}
-use Rattle.vx_flow.specs.declared.graph.Op.TheVariants.{Compute, Place, Text, Across}
+use Rattle.vx_flow.specs.declared.graph.Op.TheVariants.{Compute, Place, Text, Across, Base, PlaceIn}
 use Rattle.vx_flow.specs.declared.graph.Exit.{Exit}
 use Rattle.vx_flow.specs.declared.graph.Exit.TheVariants.{Goto, Split, Call, Return, Ends}
 use Rattle.vx_flow.specs.declared.graph.Block.{Block}
 use Rattle.vx_flow.specs.declared.graph.Graph.{Graph}
 use Rattle.vx_flow.specs.Effects.{IsIn}
-use Rattle.vx_flow.specs.Sound.{operands_of_exit, tests_of_exit, results_of_exit, targets_of, IsOperandOf, HasOperation, HasExit, IsAccess, IsPlace, Sound}
+use Rattle.vx_flow.specs.Sound.{operands_of_exit, tests_of_exit, results_of_exit, targets_of, IsOperandOf, HasOperation, HasExit, IsAccess, IsPlace, in_own, in_handed, IsBase, given, made, Sound}
 use Rattle.vx_flow.proofs.Members.{in_left, in_either}
 use Rattle.vx_flow.proofs.SoundNames.{zero_is, operands_are, results_are, tests_are, arrays_are}
 use Rattle.vx_select.specs.Selected.{Diamond, both_sides, stays, numbered, led, changed, converted, IsDiamond}
 use Rattle.vx_select.proofs.Sides.{Simple, computes, chooses}
 use Rattle.vx_select.proofs.Joined.{get_below, get_in, the_left, the_right, is_one_of}
 use Rattle.vx_select.proofs.Numbered.{side_is, block_at, old_at}
-use Rattle.vx_select.proofs.Fresh.{Fresh, all_fresh}
+use Rattle.vx_select.proofs.Fresh.{in_array, as_base, Fresh, all_fresh}
 
 pub record Placed {A : Type 0} (xs : List A) (x : A) : Type 0 where
   pub place : ℕ
@@ -80,6 +80,21 @@ fresh_no_access op a p chooses h = elim h [ ]
 fresh_no_across : (op : Op) (v u : ℕ) → Simple op → op ≡ Across v u → ⊥
 fresh_no_across op v u computes e = cc
 fresh_no_across op v u chooses e = cc
+
+fresh_no_base : (op : Op) (v a : ℕ) (x : Operand) → Simple op → op ≡ Base v a x → ⊥
+fresh_no_base op v a x computes e = cc
+fresh_no_base op v a x chooses e = cc
+
+fresh_no_place_in : (op : Op) (v a u : ℕ) (i : Operand) → Simple op → op ≡ PlaceIn v a u i → ⊥
+fresh_no_place_in op v a u i computes e = cc
+fresh_no_place_in op v a u i chooses e = cc
+
+left_alone : (x : Exit) (to : ℕ → ℕ) (y : Operand) → Return y ≡ led to x → Return y ≡ x
+left_alone (Goto c) to y e = absurd (cc)
+left_alone (Split p c b) to y e = absurd (cc)
+left_alone (Call f arguments result c) to y e = absurd (cc)
+left_alone (Return z) to y e = e
+left_alone (Ends k) to y e = absurd (cc)
 
 fresh_no_text : (op : Op) (n : ℕ) → Simple op → op ≡ Text n → ⊥
 fresh_no_text op n computes e = cc
@@ -225,17 +240,32 @@ module _ (live : ℕ → ℕ → Bool) (most : ℕ) (g : Graph) (d : Diamond) (s
       let l : t.old < length g.blocks = sound.targets o.old t.old o.has t.has in
       subst (λ x. x < length h.blocks) (sym t.is) (number_below t.old (o.stay t.old t.has) l)
 
-  -- ---- places
+  -- ---- places and bases
+
+  still : (op : Op) → HasOperation h op → (Simple op → ⊥) → HasOperation g op
+  still op at n = elim (new_operation op at) [ inl a ↦ a | inr f ↦ absurd (n f.simple) ]
 
   old_place : (v a : ℕ) → IsPlace h v a → IsPlace g v a
-  old_place v a place = by (new_operation (Place v a place.index) place.made)
-    where
-      by : HasOperation g (Place v a place.index) ⊎ Fresh live most g d sound it (Place v a place.index) → IsPlace g v a
-      by (inl at) = record { index = place.index; made = at; own = place.own }
-      by (inr f) = absurd (fresh_no_place (Place v a place.index) v a place.index f.simple refl)
+  old_place v a (in_own i at own) = in_own i (still (Place v a i) at (λ s. fresh_no_place (Place v a i) v a i s refl)) own
+  old_place v a (in_handed u i at) = in_handed u i (still (PlaceIn v a u i) at (λ s. fresh_no_place_in (PlaceIn v a u i) v a u i s refl))
 
   new_place : (v a : ℕ) → IsPlace g v a → IsPlace h v a
-  new_place v a place = record { index = place.index; made = old_operation (Place v a place.index) (λ s. fresh_no_place (Place v a place.index) v a place.index s refl) place.made; own = place.own }
+  new_place v a (in_own i at own) = in_own i (old_operation (Place v a i) (λ s. fresh_no_place (Place v a i) v a i s refl) at) own
+  new_place v a (in_handed u i at) = in_handed u i (old_operation (PlaceIn v a u i) (λ s. fresh_no_place_in (PlaceIn v a u i) v a u i s refl) at)
+
+  old_made : (v a : ℕ) (x : Operand) → HasOperation h (Base v a x) → HasOperation g (Base v a x)
+  old_made v a x at = still (Base v a x) at (λ s. fresh_no_base (Base v a x) v a x s refl)
+
+  pub base_was : (v : ℕ) → IsBase h v → IsBase g v
+  base_was v (given a e) = given a e
+  base_was v (made a x at) = made a x (old_made v a x at)
+
+  pub base_stays : (v : ℕ) → IsBase g v → IsBase h v
+  base_stays v (given a e) = given a e
+  base_stays v (made a x at) = made a x (old_operation (Base v a x) (λ s. fresh_no_base (Base v a x) v a x s refl) at)
+
+  old_return : (x : Operand) → HasExit h (Return x) → HasExit g (Return x)
+  old_return x at = let o = new_exit (Return x) at in subst (HasExit g) (sym (left_alone o.old (numbered d) x o.is)) o.has
 
   -- ---- the whole
 
@@ -259,11 +289,21 @@ module _ (live : ℕ → ℕ → Bool) (most : ℕ) (g : Graph) (d : Diamond) (s
     exit_tests = λ exit v at m. let o = new_exit exit at in sound.exit_tests o.old v o.has (subst (IsIn v) (led_tests (numbered d) o.old) (subst (λ e. IsIn v (tests_of_exit e)) o.is m));
     targets = λ exit c at m. exit_target exit (new_exit exit at) c m;
     no_across = λ v u at. named_new (Across v u) at (λ a. sound.no_across v u a) (λ f. fresh_no_across (Across v u) v u f.simple refl);
-    place_written = λ v a op place at m. named_new op at (λ k. sound.place_written v a op (old_place v a place) k m) (λ f. absurd (f.writes_none v a (old_place v a place) m));
-    place_read = λ v a op place at m. named_new op at (λ k. sound.place_read v a op (old_place v a place) k m) (λ f. absurd (f.reads_none v a (old_place v a place) m));
+    base_from = λ v a x at. (let m = sound.base_from v a x (old_made v a x at) in record { array = m.array; is = m.is; bare = m.bare; from = m.from });
+    place_bare = λ v a i at. sound.place_bare v a i (still (Place v a i) at (λ s. fresh_no_place (Place v a i) v a i s refl));
+    place_base = λ v a u i at. sound.place_base v a u i (still (PlaceIn v a u i) at (λ s. fresh_no_place_in (PlaceIn v a u i) v a u i s refl));
+    place_written = λ v a op place at m. named_new op at (λ k. sound.place_written v a op (old_place v a place) k m) (λ f. absurd (f.writes_none v (in_array a (old_place v a place)) m));
+    place_read = λ v a op place at m. named_new op at (λ k. sound.place_read v a op (old_place v a place) k m) (λ f. absurd (f.reads_none v (in_array a (old_place v a place)) m));
     place_parameter = λ v a place m. sound.place_parameter v a (old_place v a place) m;
     place_exit = λ v a exit place at m. let o = new_exit exit at in sound.place_exit v a o.old (old_place v a place) o.has (elim m [ inl x ↦ inl (exit_operand exit o (Held v) x) | inr y ↦ inr (exit_result exit o v y) ]);
     placed = λ a p op at access own. named_new op at (λ k. placed_new a p (sound.placed a p op k access own)) (λ f. absurd (fresh_no_access op a p f.simple access));
+    placed_by = λ a u p op at access e. named_new op at (λ k. let q = sound.placed_by a u p op k access e in (q.0, q.1, new_place q.0 a q.2)) (λ f. absurd (fresh_no_access op a p f.simple access));
+    handed = λ a v array e b. sound.handed a v array e b;
+    base_written = λ v op base at m. named_new op at (λ k. sound.base_written v op (base_was v base) k m) (λ f. absurd (f.writes_none v (as_base (base_was v base)) m));
+    base_parameter = λ v a x at m. sound.base_parameter v a x (old_made v a x at) m;
+    base_read = λ v op base at m. named_new op at (λ k. sound.base_read v op (base_was v base) k m) (λ f. absurd (f.reads_none v (as_base (base_was v base)) m));
+    base_result = λ v exit base at m. (let o = new_exit exit at in sound.base_result v o.old (base_was v base) o.has (exit_result exit o v m));
+    base_returned = λ v x base at e. sound.base_returned v x (base_was v base) (old_return x at) e;
     moves = λ v a b at. named_new (Compute Mov v a b) at (λ k. sound.moves v a b k) (λ f. zero_is b (and_parts _ _ f.names).1);
   }
     where

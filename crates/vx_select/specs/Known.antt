@@ -9,7 +9,7 @@ use Rattle.vx_flow.specs.declared.graph.Graph.{Graph}
 use Rattle.vx_flow.specs.Rows.{is_marked, lives}
 use Rattle.vx_select.specs.declared.corners.Corners.{Corners}
 use Rattle.vx_select.specs.declared.known.Known.{Known}
-use Rattle.vx_select.specs.Selected.{Diamond, is_simple, is_placed, stays}
+use Rattle.vx_select.specs.Selected.{Diamond, is_simple, is_address, stays}
 use Rattle.vx_select.specs.Search.{if_good}
 
 -- ---- what is live
@@ -22,16 +22,16 @@ told_at rows v (Some c) = lives rows c v
 abbrev pub told : Known → ℕ → ℕ → Bool
 told known b v = told_at known.rows v (slice_get known.numbers b)
 
--- ---- places of own arrays
+-- ---- places and bases
 
 -- a value is marked where it was, or passes
 pub record Marks (p : ℕ → Bool) (before after : List Bool) : Type 0 where
   pub count : length after ≡ length before
   pub marks : (v : ℕ) → v < length before → is_marked after v ≡ (is_marked before v || p v)
 
--- the places of own arrays among the values of a graph are marked
-abbrev pub ArePlaced : Graph → List Bool → Type 0
-ArePlaced g marks = (v : ℕ) → v < length g.banks → is_marked marks v ≡ is_placed g v
+-- those of the values of a graph are marked that are bases, or places of arrays that are no globals
+abbrev pub AreAddresses : Graph → List Bool → Type 0
+AreAddresses g marks = (v : ℕ) → v < length g.banks → is_marked marks v ≡ is_address g v
 
 -- ---- diamonds by their corners
 

@@ -3,13 +3,13 @@
 // so that such conversions find room.
 #![tactic(auto)]
 
+mod addresses;
 mod both_sides;
 mod conversion;
 pub mod corners;
 pub mod known;
 pub mod laws;
 pub mod padding;
-mod places;
 mod search;
 pub mod selection;
 pub mod values;

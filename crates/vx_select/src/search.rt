@@ -4,7 +4,7 @@ ghost use Rattle.std.specs.Prelude.{◌≡◌, ◌==◌, ◌||◌, ◌&&◌, ◌
 ghost use Rattle.std.specs.List.{list_all};
 ghost use Rattle.std.specs.Option.{option_map};
 ghost use Rattle.vx_flow.specs.Sound.{targets_of};
-ghost use Rattle.vx_select.specs.Known.{diamond_in, diamond_of, is_formed, is_no_side, ops_at, told, whole, ArePlaced};
+ghost use Rattle.vx_select.specs.Known.{diamond_in, diamond_of, is_formed, is_no_side, ops_at, told, whole, AreAddresses};
 ghost use Rattle.vx_select.specs.Search.{are_alone, first_diamond, is_good};
 ghost use Rattle.vx_select.specs.Selected.{is_simple};
 
@@ -22,15 +22,15 @@ const MOST_OPS: usize = 512;
 pub(crate) fn first(
     alloc: Global,
     known: &Known,
-    placed: &[bool],
+    addresses: &[bool],
     graph: &Graph,
     most: u32,
 ) -> Result<Option<Corners>, NoMemory>
-    requires { ArePlaced graph.now placed.now }
+    requires { AreAddresses graph.now addresses.now }
     ensures { IfOk result (λ found. option_map (whole graph.now) found ≡ first_diamond (told known.now) most graph.now) }
 {
     for block in 0..graph.blocks.len() as u32 {
-        match found_at(alloc, known, placed, graph, block, most)? {
+        match found_at(alloc, known, addresses, graph, block, most)? {
             Some(corners) => return Ok(Some(corners)),
             None => {}
         }
@@ -42,18 +42,18 @@ pub(crate) fn first(
 fn found_at(
     alloc: Global,
     known: &Known,
-    placed: &[bool],
+    addresses: &[bool],
     graph: &Graph,
     block: BlockId,
     most: u32,
 ) -> Result<Option<Corners>, NoMemory>
-    requires { ArePlaced graph.now placed.now }
+    requires { AreAddresses graph.now addresses.now }
     ensures { IfOk result (λ found. option_map (whole graph.now) found ≡ diamond_in (told known.now) most graph.now block (slice_get graph.now.blocks block)) }
 {
     match graph.blocks.as_slice().get(block as usize) {
         Some(found) => {
             let corners = corners_by(graph, block, &found.exit);
-            where_good(alloc, known, placed, graph, corners, most)
+            where_good(alloc, known, addresses, graph, corners, most)
         }
         None => Ok(None),
     }
@@ -63,17 +63,17 @@ fn found_at(
 fn where_good(
     alloc: Global,
     known: &Known,
-    placed: &[bool],
+    addresses: &[bool],
     graph: &Graph,
     corners: Option<Corners>,
     most: u32,
 ) -> Result<Option<Corners>, NoMemory>
-    requires { ArePlaced graph.now placed.now }
+    requires { AreAddresses graph.now addresses.now }
     ensures { IfOk result (λ found. option_map (whole graph.now) found ≡ diamond_of (told known.now) most graph.now corners) }
 {
     match corners {
         Some(corners) => {
-            if is_good(alloc, known, placed, graph, &corners, most)? {
+            if is_good(alloc, known, addresses, graph, &corners, most)? {
                 Ok(Some(corners))
             } else {
                 Ok(None)
@@ -88,16 +88,16 @@ fn where_good(
 fn is_good(
     alloc: Global,
     known: &Known,
-    placed: &[bool],
+    addresses: &[bool],
     graph: &Graph,
     corners: &Corners,
     most: u32,
 ) -> Result<bool, NoMemory>
-    requires { ArePlaced graph.now placed.now }
+    requires { AreAddresses graph.now addresses.now }
     ensures { IfOk result (λ good. good ≡ is_good (told known.now) most graph.now (whole graph.now corners.now)) }
 {
     if has_form(graph, corners, most) {
-        let values = values_of(alloc, known, placed, graph, corners)?;
+        let values = values_of(alloc, known, addresses, graph, corners)?;
         Ok(has_room(&values, graph, corners))
     } else {
         Ok(false)

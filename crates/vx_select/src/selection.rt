@@ -5,14 +5,14 @@ ghost use Rattle.vx_ast.specs.Tree.{Program};
 ghost use Rattle.vx_flow.specs.Sound.{is_sound_flow};
 ghost use Rattle.vx_lower.specs.FlowOf.{FlowOf};
 ghost use Rattle.vx_shape.specs.Flows.{Each};
-ghost use Rattle.vx_select.specs.Known.{told, whole, ArePlaced};
+ghost use Rattle.vx_select.specs.Known.{told, whole, AreAddresses};
 ghost use Rattle.vx_select.specs.Selected.{converted, Selected, Selects};
 ghost use Rattle.vx_select.specs.Step.{Step};
 
+use crate::addresses::addresses;
 use crate::conversion::converted;
 use crate::corners::Corners;
 use crate::known::{Known, known_of};
-use crate::places::placed;
 use crate::search::first;
 use crate::values::values_of;
 use std::alloc::Global;
@@ -76,10 +76,10 @@ fn next(alloc: Global, graph: &Graph, most: u32) -> Result<Option<Graph>, NoMemo
     ensures { IfOk result (λ found. Step most graph.now found) }
 {
     let known = known_of(alloc, graph)?;
-    let placed = placed(alloc, graph)?;
-    match first(alloc, &known, placed.as_slice(), graph, most)? {
+    let addresses = addresses(alloc, graph)?;
+    match first(alloc, &known, addresses.as_slice(), graph, most)? {
         Some(corners) => {
-            let new = convert(alloc, &known, placed.as_slice(), graph, &corners)?;
+            let new = convert(alloc, &known, addresses.as_slice(), graph, &corners)?;
             Ok(Some(new))
         }
         None => Ok(None),
@@ -89,13 +89,13 @@ fn next(alloc: Global, graph: &Graph, most: u32) -> Result<Option<Graph>, NoMemo
 fn convert(
     alloc: Global,
     known: &Known,
-    placed: &[bool],
+    addresses: &[bool],
     graph: &Graph,
     corners: &Corners,
 ) -> Result<Graph, NoMemory>
-    requires { ArePlaced graph.now placed.now }
+    requires { AreAddresses graph.now addresses.now }
     ensures { IfOk result (λ new. new ≡ converted (told known.now) graph.now (whole graph.now corners.now)) }
 {
-    let values = values_of(alloc, known, placed, graph, corners)?;
+    let values = values_of(alloc, known, addresses, graph, corners)?;
     converted(alloc, graph, corners, &values)
 }

@@ -4,7 +4,7 @@ ghost use Rattle.std.specs.Prelude.{◌≡◌, ◌&&◌, not, ℕ, IfOk, length,
 ghost use Rattle.std.specs.List.{filter, list_any};
 ghost use Rattle.vx_flow.specs.Sound.{is_general};
 ghost use Rattle.vx_flow.specs.Rows.{is_marked};
-ghost use Rattle.vx_select.specs.Known.{ops_at, told, whole, ArePlaced};
+ghost use Rattle.vx_select.specs.Known.{ops_at, told, whole, AreAddresses};
 ghost use Rattle.vx_select.specs.Values.{names_it, AreValues};
 ghost use Rattle.vx_select.specs.Selected.{chosen_values, free_values, is_free};
 
@@ -32,18 +32,18 @@ pub struct Values {
 pub(crate) fn values_of(
     alloc: Global,
     known: &Known,
-    placed: &[bool],
+    addresses: &[bool],
     graph: &Graph,
     corners: &Corners,
 ) -> Result<Values, NoMemory>
-    requires { ArePlaced graph.now placed.now }
+    requires { AreAddresses graph.now addresses.now }
     ensures { IfOk result (λ values. AreValues (told known.now) graph.now (whole graph.now corners.now) values) }
 {
     let count = graph.banks.len() as u32;
     let left = written(alloc, ops_at(graph, corners.yes), &[], count)?;
     let right = written(alloc, ops_at(graph, corners.no), &[], count)?;
     let room = left.len() + right.len();
-    let free = free_up_to(alloc, known, placed, graph, corners, room)?;
+    let free = free_up_to(alloc, known, addresses, graph, corners, room)?;
     let chosen = chosen(alloc, known, graph, corners, count)?;
     Ok(Values {
         left,
@@ -92,12 +92,12 @@ fn living(
 fn free_up_to(
     alloc: Global,
     known: &Known,
-    placed: &[bool],
+    addresses: &[bool],
     graph: &Graph,
     corners: &Corners,
     most: usize,
 ) -> Result<Vec<Value>, NoMemory>
-    requires { ArePlaced graph.now placed.now }
+    requires { AreAddresses graph.now addresses.now }
     ensures { IfOk result (λ free. free.items ≡ take most (free_values (told known.now) graph.now (whole graph.now corners.now))) }
 {
     let mut free = Vec::new(alloc);
@@ -105,7 +105,7 @@ fn free_up_to(
         if free.len() >= most {
             return Ok(free);
         }
-        if is_free(known, placed, graph, corners, value) {
+        if is_free(known, addresses, graph, corners, value) {
             free.push(value)?;
         }
     }
@@ -114,17 +114,23 @@ fn free_up_to(
 
 /// Whether a value may be taken: it is a general one, which is live at neither side nor where they meet, is not named by them, and
 /// is no place of an array of the function's own.
-fn is_free(known: &Known, placed: &[bool], graph: &Graph, corners: &Corners, value: Value) -> bool
-    requires { ArePlaced graph.now placed.now }
+fn is_free(
+    known: &Known,
+    addresses: &[bool],
+    graph: &Graph,
+    corners: &Corners,
+    value: Value,
+) -> bool
+    requires { AreAddresses graph.now addresses.now }
     ensures { result ≡ is_free (told known.now) graph.now (whole graph.now corners.now) value }
 {
-    is_open(placed, graph, value) && is_unused(known, graph, corners, value)
+    is_open(addresses, graph, value) && is_unused(known, graph, corners, value)
 }
 
-fn is_open(placed: &[bool], graph: &Graph, value: Value) -> bool
-    ensures { result ≡ (is_general graph.now.banks value && not (is_marked placed.now value)) }
+fn is_open(addresses: &[bool], graph: &Graph, value: Value) -> bool
+    ensures { result ≡ (is_general graph.now.banks value && not (is_marked addresses.now value)) }
 {
-    is_general(graph.banks.as_slice(), value) && !is_marked(placed, value)
+    is_general(graph.banks.as_slice(), value) && !is_marked(addresses, value)
 }
 
 /// Whether a value is live nowhere and named by no operation of the sides.
