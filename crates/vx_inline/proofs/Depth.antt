@@ -14,7 +14,7 @@ use Rattle.vx_flow.specs.declared.graph.Block.{Block}
 use Rattle.vx_flow.specs.declared.graph.Graph.{Graph}
 use Rattle.vx_flow.specs.declared.graph.Flow.{Flow}
 use Rattle.vx_flow.specs.Effects.{Content, State, Setting, IsIn, held, is_one, effect}
-use Rattle.vx_flow.specs.Meaning.{Hop, Arrives, Calls, Leaves, Stops, Wrong, known, by_test, calls, leaves, leave, and_then, block_hop, hop_of, Body, Program, Frame, Active, deepest, enters, returned, waits, after_hop, body_hop, hop, next, body_of, program_of, setting_with}
+use Rattle.vx_flow.specs.Meaning.{Hop, Arrives, Calls, Leaves, Stops, Wrong, known, by_test, calls, leaves, leave, and_then, block_hop, hop_of, Body, Program, Frame, Active, deepest, spots_for, enters_with, enters, returned, waits, after_hop, body_hop, hop, next, body_of, program_of, setting_with}
 use Rattle.vx_flow.specs.Sound.{HasExit}
 use Rattle.vx_flow.specs.Walking.{Distinct}
 use Rattle.vx_inline.specs.Inlined.{CallsTo, Reaches, calls as directly, through, OnCycle}
@@ -194,7 +194,11 @@ module _ (flow : Flow) where
 
   enters_chain : (g : ℕ) (body : Option Body) (ns : List ℤ) (s : State) (ws : List Frame) → Chain flow g ws → StepChain (enters g body ns s ws)
   enters_chain g None ns s ws k = tt
-  enters_chain g (Some body) ns s ws k = k
+  enters_chain g (Some body) ns s ws k = by (spots_for (Some body) ns s)
+    where
+      by : (spots : Option (List (Option ℕ))) → StepChain (enters_with g (Some body) ns s ws spots)
+      by None = tt
+      by (Some passed) = k
 
   returned_chain : (n : ℤ) (s : State) (base f : ℕ) (ws : List Frame) → Chain flow f ws → StepChain (returned n s base ws)
   returned_chain n s base f [] k = tt

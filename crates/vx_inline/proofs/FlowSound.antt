@@ -11,13 +11,17 @@ use Rattle.vx_flow.specs.declared.graph.Global.{Global}
 use Rattle.vx_flow.specs.declared.graph.Array.{Array}
 use Rattle.vx_flow.specs.declared.graph.Op.TheVariants.{Text}
 use Rattle.vx_flow.specs.Effects.{IsIn}
-use Rattle.vx_flow.specs.Sound.{HasOperation, HasExit, Sound, SoundFlow, Callable, HasGlobal}
+use Rattle.vx_flow.specs.Sound.{HasOperation, HasExit, Sound, SoundFlow, Callable, HasGlobal, IsBaseOperand, base, IsGivenBase}
 use Rattle.vx_lower.proofs.Places.{set_same, set_other}
 use Rattle.vx_inline.specs.declared.site.Site.{Site}
 use Rattle.vx_inline.specs.Inlined.{CallAt, IsPermitted, Inlined, inlined, inlined_blocks}
-use Rattle.vx_inline.proofs.JoinedSound.{graph_sound, graph_some, graph_calls, graph_texts}
+use Rattle.vx_inline.proofs.JoinedSound.{graph_sound, graph_some, graph_calls, graph_call, graph_texts, old_base, new_base}
 use Rattle.vx_inline.proofs.Edges.{in_there}
 use Rattle.vx_inline.proofs.Depth.{get_in}
+
+-- an argument is a base exactly where its parameter is
+abbrev Agree : Graph → Graph → Operand → ℕ → Type 0
+Agree g h x p = (IsBaseOperand g x → IsGivenBase h p) × (IsGivenBase h p → IsBaseOperand g x)
 
 module _ (flow : Flow) (site : Site) (c : CallAt flow site) (free : Bank → List ℕ) (permitted : IsPermitted flow site c free) (sound : SoundFlow flow) where
   abbrev G : Graph
@@ -77,6 +81,7 @@ module _ (flow : Flow) (site : Site) (c : CallAt flow site) (free : Bank → Lis
     parameters = λ g i j v m. parameters_by g i j v (graph_in g m);
     main = still_callable flow.main 0 sound.main;
     calls = λ g f next arguments result m h. still_callable f (length arguments) (calls_by g f next arguments result h (graph_in g m));
+    handed = λ g h f next k p arguments result x m e is a b. handed_by g h f next k p arguments result x (graph_in g m) e (graph_from f h is) a b;
     texts = λ g n m h. texts_by g n h (graph_in g m);
     globals = λ g i x m e. globals_by g i x e (graph_in g m);
     own = λ g i array m e l. own_by g i array e l (graph_in g m);
@@ -99,6 +104,37 @@ module _ (flow : Flow) (site : Site) (c : CallAt flow site) (free : Bank → Lis
       calls_by g f next arguments result h (inl m) = sound.calls g f next arguments result m h
       calls_by g f next arguments result h (inr e) = graph_calls flow site c free permitted sound f next arguments result (subst (λ x. HasExit x (Call f arguments result next)) e h)
 
+      -- the graph that is called takes the same, and the caller hands over the same
+
+      given_old : (p : ℕ) → IsGivenBase G p → IsGivenBase c.parts.caller p
+      given_old p i = record { array = i.array; base = i.base }
+
+      given_new : (p : ℕ) → IsGivenBase c.parts.caller p → IsGivenBase G p
+      given_new p i = record { array = i.array; base = i.base }
+
+      operand_old : (x : Operand) → IsBaseOperand G x → IsBaseOperand c.parts.caller x
+      operand_old x (base {v = v} i) = base (old_base flow site c free permitted sound v i)
+
+      operand_new : (x : Operand) → IsBaseOperand c.parts.caller x → IsBaseOperand G x
+      operand_new x (base {v = v} i) = base (new_base flow site c free permitted sound v i)
+
+      -- of a caller of the old flow
+      handed_old : (g h : Graph) (f next k p : ℕ) (arguments : List Operand) (result : Option ℕ) (x : Operand) → IsIn g flow.functions → HasExit g (Call f arguments result next)
+          → (slice_get flow.functions f ≡ Some h) ⊎ ((f ≡ site.function) × (h ≡ G)) → slice_get arguments k ≡ Some x → slice_get h.parameters k ≡ Some p → Agree g h x p
+      handed_old g h f next k p arguments result x m e (inl is) a b = sound.handed g h f next k p arguments result x m e is a b
+      handed_old g h f next k p arguments result x m e (inr q) a b =
+          let is : slice_get flow.functions f ≡ Some c.parts.caller = ap (slice_get flow.functions) q.0 ∙ c.is_caller in
+          let r = sound.handed g c.parts.caller f next k p arguments result x m e is a (subst (λ (z : Graph). slice_get z.parameters k ≡ Some p) q.1 b) in
+          subst (λ z. Agree g z x p) (sym q.1) (λ i. given_new p (r.0 i), λ i. r.1 (given_old p i))
+
+      handed_by : (g h : Graph) (f next k p : ℕ) (arguments : List Operand) (result : Option ℕ) (x : Operand) → IsIn g flow.functions ⊎ (g ≡ G) → HasExit g (Call f arguments result next)
+          → (slice_get flow.functions f ≡ Some h) ⊎ ((f ≡ site.function) × (h ≡ G)) → slice_get arguments k ≡ Some x → slice_get h.parameters k ≡ Some p → Agree g h x p
+      handed_by g h f next k p arguments result x (inl m) e w a b = handed_old g h f next k p arguments result x m e w a b
+      handed_by g h f next k p arguments result x (inr q) e w a b =
+          let n = graph_call flow site c free permitted sound f next arguments result (subst (λ z. HasExit z (Call f arguments result next)) q e) in
+          let r = handed_old c.parts.caller h f n.0 k p arguments result x caller_in n.1 w a b in
+          subst (λ z. Agree z h x p) (sym q) (λ i. r.0 (operand_old x i), λ i. operand_new x (r.1 i))
+
       texts_by : (g : Graph) (n : ℕ) → HasOperation g (Text n) → IsIn g flow.functions ⊎ (g ≡ G) → n < length flow.texts
       texts_by g n h (inl m) = sound.texts g n m h
       texts_by g n h (inr e) = graph_texts flow site c free permitted sound n (subst (λ x. HasOperation x (Text n)) e h)
@@ -107,7 +143,7 @@ module _ (flow : Flow) (site : Site) (c : CallAt flow site) (free : Bank → Lis
       globals_by g i x e (inl m) = sound.globals g i x m e
       globals_by g i x e (inr q) = subst (λ (h : Graph). HasGlobal h.arrays i x.words) (sym q) (sound.globals c.parts.caller i x caller_in e)
 
-      own_by : (g : Graph) (i : ℕ) (array : Array) → slice_get g.arrays i ≡ Some array → length flow.globals ≤ i → IsIn g flow.functions ⊎ (g ≡ G) → (array.global ≡ false) × (array.base ≡ None)
+      own_by : (g : Graph) (i : ℕ) (array : Array) → slice_get g.arrays i ≡ Some array → length flow.globals ≤ i → IsIn g flow.functions ⊎ (g ≡ G) → array.global ≡ false
       own_by g i array e l (inl m) = sound.own g i array m e l
       own_by g i array e l (inr q) = sound.own c.parts.caller i array caller_in (subst (λ (h : Graph). slice_get h.arrays i ≡ Some array) q e) l
 

@@ -7,21 +7,25 @@ use Rattle.std.specs.List.{filter, flat_map}
 use Rattle.vx_flow.specs.declared.graph.Array.{Array}
 use Rattle.vx_flow.specs.declared.graph.Operand.{Operand}
 use Rattle.vx_flow.specs.declared.graph.Bank.{Bank}
+use Rattle.vx_flow.specs.declared.graph.Block.{Block}
 use Rattle.vx_flow.specs.declared.graph.Bank.TheVariants.{General, Branch}
 use Rattle.vx_flow.specs.declared.graph.Op.{Op}
-use Rattle.vx_flow.specs.declared.graph.Op.TheVariants.{Compute, Select, Place, Load, Store, More, Input, Text, Decimal, Across}
+use Rattle.vx_flow.specs.declared.graph.Op.TheVariants.{Compute, Select, Place, Load, Store, More, Input, Text, Decimal, Across, Base, PlaceIn}
 use Rattle.vx_flow.specs.Effects.{IsIn, value_in}
 use Rattle.vx_flow.specs.Live.{IsLive}
 use Rattle.vx_flow.specs.Operands.{value_list}
 use Rattle.vx_flow.specs.Rows.{lives, row_at}
-use Rattle.vx_flow.specs.Sound.{Has, is_bank, is_local}
+use Rattle.vx_flow.specs.Sound.{HasOperation, Has, IsBase, given, made, is_bank, is_local}
 use Rattle.vx_flow.specs.Walk.{numbers}
 use Rattle.vx_flow.proofs.Members.{in_left, in_right, in_either}
+use Rattle.vx_flow.proofs.SoundBases.{array_of_base, base_of_array}
 use Rattle.vx_flow.proofs.SoundLists.{not_of, not_both}
 use Rattle.vx_flow.proofs.ClosingSteps.{any_in, in_any}
 use Rattle.vx_inline.specs.Inlined.{TheCall, Ascends, IsFree, AreFree, is_among, named}
 use Rattle.vx_inline.specs.Permitting.{HasEnough}
-use Rattle.vx_inline.specs.Values.{local_place, local_places, kept, free_of, is_enough, has_values}
+use Rattle.vx_inline.specs.Values.{local_place, local_places, given_bases, kept, free_of, is_enough, has_values}
+use Rattle.vx_inline.proofs.Depth.{get_in}
+use Rattle.vx_inline.proofs.Edges.{in_there}
 use Rattle.vx_inline.proofs.One.{frees_same}
 use Rattle.vx_inline.proofs.Taking.{InFlat, from_flat, in_flat, numbers_in, filter_in, is_bank_here}
 
@@ -52,15 +56,21 @@ filter_ascends p b (suc n) = by (p b) (filter_ascends p (b + 1) n)
     by true a = (above, a)
     by false a = a
 
--- ---- places of arrays that are no globals
+-- ---- places of arrays that are no globals, and bases
 
-place_of : (arrays : List Array) (op : Op) (v : ℕ) → IsIn v (local_place arrays op) → (a : ℕ) × (i : Operand) × (op ≡ Place v a i) × (is_local arrays a ≡ true)
+-- an operation that keeps a value from being taken
+data Keeps (arrays : List Array) (op : Op) (v : ℕ) : Type 0 where
+  own_place : (a : ℕ) (i : Operand) → op ≡ Place v a i → is_local arrays a ≡ true → Keeps arrays op v
+  handed_place : (a u : ℕ) (i : Operand) → op ≡ PlaceIn v a u i → Keeps arrays op v
+  a_base : (a : ℕ) (x : Operand) → op ≡ Base v a x → Keeps arrays op v
+
+place_of : (arrays : List Array) (op : Op) (v : ℕ) → IsIn v (local_place arrays op) → Keeps arrays op v
 place_of arrays (Compute code u x y) v m = absurd m
 place_of arrays (Select u p x y) v m = absurd m
 place_of arrays (Place u a i) v m = by (is_local arrays a) refl m
   where
-    by : (t : Bool) → is_local arrays a ≡ t → IsIn v (cond t (u ∷ []) []) → (b : ℕ) × (j : Operand) × (Place u a i ≡ Place v b j) × (is_local arrays b ≡ true)
-    by true e (inl q) = (a, i, ap (λ w. Place w a i) (sym q), e)
+    by : (t : Bool) → is_local arrays a ≡ t → IsIn v (cond t (u ∷ []) []) → Keeps arrays (Place u a i) v
+    by true e (inl q) = own_place a i (ap (λ w. Place w a i) (sym q)) e
     by true e (inr z) = absurd z
     by false e z = absurd z
 place_of arrays (Load u a p d) v m = absurd m
@@ -70,9 +80,13 @@ place_of arrays (Input u) v m = absurd m
 place_of arrays (Text n) v m = absurd m
 place_of arrays (Decimal x) v m = absurd m
 place_of arrays (Across u w) v m = absurd m
+place_of arrays (Base u a x) v (inl q) = a_base a x (ap (λ w. Base w a x) (sym q))
+place_of arrays (Base u a x) v (inr z) = absurd z
+place_of arrays (PlaceIn u a w i) v (inl q) = handed_place a w i (ap (λ y. PlaceIn y a w i) (sym q))
+place_of arrays (PlaceIn u a w i) v (inr z) = absurd z
 
-place_in : (arrays : List Array) (v a : ℕ) (i : Operand) → is_local arrays a ≡ true → IsIn v (local_place arrays (Place v a i))
-place_in arrays v a i e = subst (λ t. IsIn v (cond t (v ∷ []) [])) (sym e) (inl refl)
+own_place_in : (arrays : List Array) (v a : ℕ) (i : Operand) → is_local arrays a ≡ true → IsIn v (local_place arrays (Place v a i))
+own_place_in arrays v a i e = subst (λ t. IsIn v (cond t (v ∷ []) [])) (sym e) (inl refl)
 
 in_value_list : (o : Option ℕ) (v : ℕ) → IsIn v (value_list o) → o ≡ Some v
 in_value_list None v m = absurd m
@@ -95,14 +109,26 @@ module _ (rows : List (List ℕ)) (c : TheCall) (exact : (v : ℕ) → IsTrue (l
   abbrev places : List ℕ
   places = flat_map (local_places c.caller.arrays) c.caller.blocks
 
+  abbrev bases : List ℕ
+  bases = given_bases c.caller.arrays
+
   free_kept : (v : ℕ) → IsFree c v → IsIn v (kept rows c) → ⊥
-  free_kept v f m = by (in_either v (behind ++ arguments ++ takers) places m)
+  free_kept v f m = by (in_either v (behind ++ arguments ++ takers ++ places) bases m)
     where
+      by_op : (block : Block) (op : Op) → IsIn block c.caller.blocks → IsIn op block.ops → Keeps c.caller.arrays op v → ⊥
+      by_op block op m s (own_place a i e l) = f.place a i (record { block = block; has = m; stands = subst (λ o. IsIn o block.ops) e s }) l
+      by_op block op m s (handed_place a u i e) = f.place_by a u i (record { block = block; has = m; stands = subst (λ o. IsIn o block.ops) e s })
+      by_op block op m s (a_base a x e) = f.base (made a x (record { block = block; has = m; stands = subst (λ o. IsIn o block.ops) e s }))
+
       by_place : InFlat (local_places c.caller.arrays) c.caller.blocks v → ⊥
       by_place r =
           let s : InFlat (local_place c.caller.arrays) r.item.ops v = from_flat (local_place c.caller.arrays) r.item.ops v r.names in
-          let q = place_of c.caller.arrays s.item v s.names in
-          f.place q.0 q.1 (record { block = r.item; has = r.has; stands = subst (λ o. IsIn o r.item.ops) q.2 s.has }) q.3
+          by_op r.item s.item r.has s.has (place_of c.caller.arrays s.item v s.names)
+
+      by_base : InFlat (λ (array : Array). value_list array.base) c.caller.arrays v → ⊥
+      by_base r =
+          let i : (a : ℕ) × (slice_get c.caller.arrays a ≡ Some r.item) = in_there c.caller.arrays r.item r.has in
+          f.base (given i.0 (base_of_array c.caller.arrays i.0 r.item v i.1 (in_value_list r.item.base v r.names)))
 
       by_first : IsIn v behind ⊎ IsIn v arguments → ⊥
       by_first (inl k) = f.dead ((exact v).0 (in_any v behind k))
@@ -112,18 +138,38 @@ module _ (rows : List (List ℕ)) (c : TheCall) (exact : (v : ℕ) → IsTrue (l
       by_three (inl k) = by_first (in_either v behind arguments k)
       by_three (inr k) = f.result (in_value_list c.result v k)
 
-      by : IsIn v (behind ++ arguments ++ takers) ⊎ IsIn v places → ⊥
-      by (inl k) = by_three (in_either v (behind ++ arguments) takers k)
-      by (inr k) = by_place (from_flat (local_places c.caller.arrays) c.caller.blocks v k)
+      by_four : IsIn v (behind ++ arguments ++ takers) ⊎ IsIn v places → ⊥
+      by_four (inl k) = by_three (in_either v (behind ++ arguments) takers k)
+      by_four (inr k) = by_place (from_flat (local_places c.caller.arrays) c.caller.blocks v k)
+
+      by : IsIn v (behind ++ arguments ++ takers ++ places) ⊎ IsIn v bases → ⊥
+      by (inl k) = by_four (in_either v (behind ++ arguments ++ takers) places k)
+      by (inr k) = by_base (from_flat (λ (array : Array). value_list array.base) c.caller.arrays v k)
 
   kept_free : (v : ℕ) → (IsIn v (kept rows c) → ⊥) → IsFree c v
   kept_free v n = record {
-    dead = λ l. n (in_left v (behind ++ arguments ++ takers) places (in_left v (behind ++ arguments) takers (in_left v behind arguments (any_in v behind ((exact v).1 l)))));
-    argument = λ k. n (in_left v (behind ++ arguments ++ takers) places (in_left v (behind ++ arguments) takers (in_right v behind arguments k)));
-    result = λ e. n (in_left v (behind ++ arguments ++ takers) places (in_right v (behind ++ arguments) takers (value_list_in c.result v e)));
-    place = λ a i h l. n (in_right v (behind ++ arguments ++ takers) places
-        (in_flat (local_places c.caller.arrays) c.caller.blocks h.block v h.has (in_flat (local_place c.caller.arrays) h.block.ops (Place v a i) v h.stands (place_in c.caller.arrays v a i l))));
+    dead = λ l. three (in_left v (behind ++ arguments) takers (in_left v behind arguments (any_in v behind ((exact v).1 l))));
+    argument = λ k. three (in_left v (behind ++ arguments) takers (in_right v behind arguments k));
+    result = λ e. three (in_right v (behind ++ arguments) takers (value_list_in c.result v e));
+    place = λ a i h l. place (Place v a i) h (own_place_in c.caller.arrays v a i l);
+    place_by = λ a u i h. place (PlaceIn v a u i) h (inl refl);
+    base = base;
   }
+    where
+      three : IsIn v (behind ++ arguments ++ takers) → ⊥
+      three m = n (in_left v (behind ++ arguments ++ takers ++ places) bases (in_left v (behind ++ arguments ++ takers) places m))
+
+      place : (op : Op) → HasOperation c.caller op → IsIn v (local_place c.caller.arrays op) → ⊥
+      place op h m =
+          n (in_left v (behind ++ arguments ++ takers ++ places) bases (in_right v (behind ++ arguments ++ takers) places
+          (in_flat (local_places c.caller.arrays) c.caller.blocks h.block v h.has (in_flat (local_place c.caller.arrays) h.block.ops op v h.stands m))))
+
+      base : IsBase c.caller v → ⊥
+      base (made a x h) = place (Base v a x) h (inl refl)
+      base (given a e) =
+          let r = array_of_base c.caller.arrays a v e in
+          n (in_right v (behind ++ arguments ++ takers ++ places) bases
+          (in_flat (λ (array : Array). value_list array.base) c.caller.arrays r.0 v (get_in c.caller.arrays a r.0 r.1) (value_list_in r.0.base v r.2)))
 
   bank_there : (bank : Bank) (o : Option Bank) → is_bank bank o ≡ true → o ≡ Some bank
   bank_there General None e = absurd (false≢true e)

@@ -21,9 +21,10 @@ use Rattle.vx_flow.specs.declared.graph.Flow.{Flow}
 use Rattle.vx_flow.specs.Agree.{SameWorld, Agree, Alike}
 use Rattle.vx_flow.specs.Effects.{Content, State, Setting, held, is_one, IsIn, value_in, with_value, reads, writes}
 use Rattle.vx_flow.specs.Live.{IsLive, reads_of_exit}
-use Rattle.vx_flow.specs.Meaning.{Hop, Arrives, Calls, Leaves, Stops, Wrong, known, by_test, calls, leaves, leave, and_then, block_hop, hop_of, Body, Program, Frame, Active, deepest, undefined, at_entry, entered, enters, with_result, returned, waits, after_hop, body_hop, hop, next, own_of, body_of, program_of, setting_with, globals_at_start, entered_or, start, graph_run, spot_in, spot_behind}
+use Rattle.vx_flow.specs.Meaning.{Hop, Arrives, Calls, Leaves, Stops, Wrong, known, by_test, calls, leaves, leave, and_then, block_hop, hop_of, Body, Program, Frame, Active, deepest, undefined, at_entry, entered, spots_held, spots_for, enters_with, enters, bases_in, bases_of, words_in, with_result, returned, waits, after_hop, body_hop, hop, next, own_of, body_of, program_of, setting_with, globals_at_start, entered_or, start, graph_run, spot_in, spot_behind}
 use Rattle.vx_flow.specs.Operands.{with_value_in, with_values}
 use Rattle.vx_flow.specs.Sound.{SoundFlow, results_of_exit, are_distinct}
+use Rattle.vx_flow.proofs.Entering.{enters_bare}
 use Rattle.vx_flow.proofs.HopsAlike.{weaken, hops_leave_alike}
 use Rattle.vx_flow.proofs.Members.{in_left, in_right}
 use Rattle.vx_flow.proofs.RunLaws.{flow_grows}
@@ -37,9 +38,7 @@ use Rattle.vx_inline.proofs.Renaming.{held_renamed}
 use Rattle.vx_inline.proofs.Depth.{get_in, Chain, wait_few, not_deepest, chain_on}
 use Rattle.vx_inline.proofs.Moving.{over_by, done, hop_done, hop_own, done_counts, done_renamed, MovedIn, moved_in}
 use Rattle.vx_inline.proofs.Taking.{in_flat}
-
-graph_is : (g h : Graph) → Option.Some g ≡ Some h → g ≡ h
-graph_is g h e = cc
+use Rattle.vx_inline.proofs.Fronts.{Fronts, own_front, graph_is, entered_same, follows_itself}
 
 module _ (flow : Flow) (site : Site) (c : CallAt flow site) (graphs : List Graph) (at copy to : ℕ → ℕ) (joins : Joins flow site c graphs at copy to) (shallow : IsShallow flow site c) (sound : SoundFlow flow) where
   abbrev old : Program
@@ -173,16 +172,6 @@ module _ (flow : Flow) (site : Site) (c : CallAt flow site) (graphs : List Graph
       by true = joins.entry
       by false = refl
 
-  abbrev Fronts : Option Graph → Option Graph → Type 0
-  Fronts None None = Unit {0}
-  Fronts None (Some h) = ⊥
-  Fronts (Some g) None = ⊥
-  Fronts (Some g) (Some h) = (h.parameters ≡ g.parameters) × (h.arrays ≡ g.arrays)
-
-  own_front : (o : Option Graph) → Fronts o o
-  own_front None = tt
-  own_front (Some g) = (refl, refl)
-
   fronts : (f : ℕ) → Fronts (slice_get flow.functions f) (slice_get graphs f)
   fronts f = by (f == site.function) refl
     where
@@ -197,25 +186,29 @@ module _ (flow : Flow) (site : Site) (c : CallAt flow site) (graphs : List Graph
           let q : f ≡ site.function → ⊥ = λ i. false≢true (sym e ∙ eq-eqb f site.function i) in
           subst (λ o. Fronts (slice_get flow.functions f) o) (sym (joins.others f q)) (own_front (slice_get flow.functions f))
 
-  entered_same : (ns : List ℤ) (s : State) (x y : Graph) → y.parameters ≡ x.parameters → y.arrays ≡ x.arrays → entered (body_of (length flow.globals) y) ns s ≡ entered (body_of (length flow.globals) x) ns s
-  entered_same ns s x y p a = λ i. record s { values = at_entry (p i) ns; arrays = s.arrays ++ map undefined (map (λ (k : Array). k.words) (drop (length flow.globals) (a i))) }
-
   -- a function is entered, in states of one world
   enters_tied : (f : ℕ) (ns : List ℤ) (s u : State) (fs gs : List Frame) (o o' : Option Graph) → Fronts o o' → SameWorld s u → FramesTied fs gs → StepTied (enters f (as_body o) ns s fs) (enters f (as_body o') ns u gs)
   enters_tied f ns s u fs gs None None k w h = (ap Outcome.Wrong (sym w.out), λ i. i)
   enters_tied f ns s u fs gs None (Some y) k w h = absurd k
   enters_tied f ns s u fs gs (Some x) None k w h = absurd k
-  enters_tied f ns s u fs gs (Some x) (Some y) k w h =
-      let same : entered (body_of (length flow.globals) y) ns u ≡ entered (body_of (length flow.globals) x) ns u = entered_same ns u x y k.0 k.1 in
-      let own : List (List Content) = map undefined (own_of (length flow.globals) x) in
-      let zero_is : 0 ≡ place f 0 = sym (place_zero f) in
-      inl (inl (record {
-        t = entered (body_of (length flow.globals) x) ns u;
-        ws = gs;
-        is = λ i. record { function = f; block = zero_is i; passed = []; base = length (w.arrays i); state = same i; waiting = gs };
-        agree = record { world = record { arrays = ap (λ rows. rows ++ own) w.arrays; input = w.input; out = w.out }; values = λ v n l e. e };
-        frames = h;
-      }))
+  enters_tied f ns s u fs gs (Some x) (Some y) k w h = subst (λ spots. StepTied (enters f (as_body (Some x)) ns s fs) (enters_with f (as_body (Some y)) ns u gs spots)) (sym spots_same) (by (spots_for (as_body (Some x)) ns s))
+    where
+      spots_same : spots_for (as_body (Some y)) ns u ≡ spots_for (as_body (Some x)) ns s
+      spots_same = λ i. spots_held (length (w.arrays i)) (at_entry (k.0 i) ns) (bases_in (drop (length flow.globals) (k.1 i)))
+
+      by : (spots : Option (List (Option ℕ))) → StepTied (enters_with f (as_body (Some x)) ns s fs spots) (enters_with f (as_body (Some y)) ns u gs spots)
+      by None = (ap Outcome.Wrong (sym w.out), λ i. i)
+      by (Some passed) =
+          let same : entered (body_of (length flow.globals) y) ns u ≡ entered (body_of (length flow.globals) x) ns u = entered_same (length flow.globals) ns u x y k.0 k.1 in
+          let own : List (List Content) = map undefined (own_of (length flow.globals) x) in
+          let zero_is : 0 ≡ place f 0 = sym (place_zero f) in
+          inl (inl (record {
+            t = entered (body_of (length flow.globals) x) ns u;
+            ws = gs;
+            is = λ i. record { function = f; block = zero_is i; passed = passed; base = length (w.arrays i); state = same i; waiting = gs };
+            agree = record { world = record { arrays = ap (λ rows. rows ++ own) w.arrays; input = w.input; out = w.out }; values = λ v n l e. e };
+            frames = h;
+          }))
 
   -- ---- returns
 
@@ -402,7 +395,10 @@ module _ (flow : Flow) (site : Site) (c : CallAt flow site) (graphs : List Graph
   own_nothing : (rows : List (List Content)) → rows ++ map undefined (own_of (length flow.globals) c.parts.callee) ≡ rows
   own_nothing rows =
       let none : drop (length flow.globals) c.parts.callee.arrays ≡ [] = drop_of_length-le c.parts.callee.arrays shallow.own_none in
-      ap (λ ks. rows ++ map undefined (map (λ (k : Array). k.words) ks)) none ∙ append-nil rows
+      ap (λ ks. rows ++ map undefined (words_in ks)) none ∙ append-nil rows
+
+  nothing_passed : bases_of (length flow.globals) c.parts.callee ≡ []
+  nothing_passed = ap bases_in (drop_of_length-le c.parts.callee.arrays shallow.own_none)
 
   module _ (passed : List (Option ℕ)) (base : ℕ) (s t : State) (fs ws : List Frame) (frames : FramesTied fs ws) (chain : Chain flow site.function fs) where
     abbrev r0 : Active
@@ -431,7 +427,7 @@ module _ (flow : Flow) (site : Site) (c : CallAt flow site) (graphs : List Graph
         let entering : Step Active = enters c.parts.called (as_body (slice_get flow.functions c.parts.called)) ns s1 (frame ∷ fs) in
         let old_step : after_hop old r0 (Calls c.parts.called ns c.parts.result b c.parts.next s1) ≡ On (in_callee 0 inner frame fs) =
         ap (λ z. cond z (Over (Outcome.Traps Depth s1.out)) entering) (shallow_here fs chain) ∙
-        ap (λ o. enters c.parts.called (as_body o) ns s1 (frame ∷ fs)) c.is_callee ∙
+        ap (λ o. enters c.parts.called (as_body o) ns s1 (frame ∷ fs)) c.is_callee ∙ enters_bare c.parts.called (body_of (length flow.globals) c.parts.callee) ns s1 (frame ∷ fs) nothing_passed ∙
         ap (λ rows. On (record { function = c.parts.called; block = 0; passed = []; base = length s1.arrays; state = record s1 { values = at_entry c.parts.callee.parameters ns; arrays = rows }; waiting = frame ∷ fs })) (own_nothing s1.arrays) in
         let carried : Carried Named (Keeps s1.values) to inner moved.state = record {
           world = record { arrays = moved.world.arrays ∙ a.world.arrays; input = moved.world.input ∙ a.world.input; out = moved.world.out ∙ a.world.out };
@@ -683,13 +679,6 @@ module _ (flow : Flow) (site : Site) (c : CallAt flow site) (graphs : List Graph
   abbrev out_there : Active → State → List Frame → Active
   out_there r t ws = record r { block = place r.function r.block; state = t; waiting = ws }
 
-  follows_itself : (blocks : List Block) (exit : Exit) → Follows blocks (λ b. b) exit exit
-  follows_itself blocks (Goto d) = refl
-  follows_itself blocks (Split p d e) = (d, e, inl refl, inl refl, refl)
-  follows_itself blocks (Call f xs result d) = refl
-  follows_itself blocks (Return x) = refl
-  follows_itself blocks (Ends k) = refl
-
   module _ (r : Active) (t : State) (ws : List Frame) (agree : Agree (LiveAt r.function r.block) r.state t) (frames : FramesTied r.waiting ws) (chain : Chain flow r.function r.waiting) (safe : Safe r) where
     elsewhere : (g : Graph) (block : Block) → slice_get flow.functions r.function ≡ Some g → slice_get g.blocks r.block ≡ Some block → (r.function == site.function) ≡ false → StepTied (next old r) (next new (out_there r t ws))
     elsewhere g block e z n =
@@ -778,7 +767,7 @@ module _ (flow : Flow) (site : Site) (c : CallAt flow site) (graphs : List Graph
   start_here s None o' k some = absurd (some refl)
   start_here s (Some x) None k some = absurd k
   start_here s (Some x) (Some y) k some =
-      let same : entered (body_of (length flow.globals) y) [] s ≡ entered (body_of (length flow.globals) x) [] s = entered_same [] s x y k.0 k.1 in
+      let same : entered (body_of (length flow.globals) y) [] s ≡ entered (body_of (length flow.globals) x) [] s = entered_same (length flow.globals) [] s x y k.0 k.1 in
       let zero_is : 0 ≡ place flow.main 0 = sym (place_zero flow.main) in
       record {
         t = entered (body_of (length flow.globals) x) [] s;

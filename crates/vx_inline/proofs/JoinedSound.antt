@@ -1,5 +1,5 @@
 -- The graph is sound, and what the flow asks of it.
-use Rattle.std.proofs.Common.{◌≡◌, ◌⊎◌, inl, inr, ℕ, ◌+◌, ◌<◌, ◌≤◌, Bool, true, false, ◌==◌, ◌&&◌, not, ℤ, pos, List, [], ◌++◌, length, map, slice_get, Option, Some, refl, sym, ap, ◌∙◌, subst, eq-eqb, eqb-true, arith}
+use Rattle.std.proofs.Common.{◌≡◌, ◌⊎◌, inl, inr, ℕ, ◌+◌, ◌<◌, ◌≤◌, Bool, true, false, ◌==◌, ◌&&◌, not, ℤ, pos, List, [], ◌++◌, length, map, slice_get, Option, Some, None, refl, sym, ap, ◌∙◌, subst, eq-eqb, eqb-true, arith}
 use Rattle.std.proofs.lemmas.Bool.{false≢true}
 use Rattle.std.proofs.lemmas.Option.{slice_get_within}
 use Rattle.std.specs.List.{flat_map}
@@ -8,7 +8,7 @@ use Rattle.vx_base.specs.declared.arithmetic.Code.TheVariants.{Mov}
 use Rattle.vx_flow.specs.declared.graph.Operand.{Operand}
 use Rattle.vx_flow.specs.declared.graph.Operand.TheVariants.{Held, Number, Stack}
 use Rattle.vx_flow.specs.declared.graph.Bank.TheVariants.{General, Branch}
-use Rattle.vx_flow.specs.declared.graph.Op.TheVariants.{Compute, Place, Across, Text}
+use Rattle.vx_flow.specs.declared.graph.Op.TheVariants.{Compute, Place, Across, Text, Base, PlaceIn}
 use Rattle.vx_flow.specs.declared.graph.Bank.{Bank}
 use Rattle.vx_flow.specs.declared.graph.Op.{Op}
 use Rattle.vx_flow.specs.declared.graph.Exit.{Exit}
@@ -19,15 +19,16 @@ use Rattle.vx_flow.specs.declared.graph.Flow.{Flow}
 use Rattle.vx_flow.specs.declared.graph.Edge.{Edge}
 use Rattle.vx_flow.specs.Effects.{IsIn, value_in, reads, writes}
 use Rattle.vx_flow.specs.Operands.{with_value_in, with_values}
-use Rattle.vx_flow.specs.Sound.{HasOperation, HasExit, SoundFlow, Sound, Leads, Has, Callable, IsOperandOf, IsPlace, IsAccess, ReadAsPlace, has_base, is_own, is_local, targets_of, operands_of, tests_of, arrays_of, bank_written, operands_of_exit, results_of_exit, tests_of_exit}
+use Rattle.vx_flow.specs.Sound.{HasOperation, HasExit, SoundFlow, Sound, Leads, Has, Callable, IsOperandOf, IsPlace, in_own, in_handed, IsAccess, MakesPlace, ReadAsPlace, IsBase, given, made, IsMadeFrom, IsBaseOperand, base, has_base, is_own, is_local, base_of, base_at, targets_of, operands_of, tests_of, arrays_of, bank_written, operands_of_exit, results_of_exit, tests_of_exit}
 use Rattle.vx_flow.proofs.Members.{in_left, in_right, in_either}
+use Rattle.vx_flow.proofs.SoundBases.{array_of_base}
 use Rattle.vx_inline.specs.declared.site.Site.{Site}
 use Rattle.vx_inline.specs.Inlined.{CallAt, IsPermitted, IsFree, names, named_by, taken, is_plain, kind_place, placed_as, move, moves_in, moves_out, entering, copied, copied_as, critical, behind, edge_block, relinked_exit, callers_plain, all_plain, all_kinds, caller_at, callee_at, joined, inlined_blocks}
 use Rattle.vx_inline.specs.Joined.{Stays, Enters}
 use Rattle.vx_inline.proofs.Depth.{get_in}
 use Rattle.vx_inline.proofs.Edges.{Rowed, in_there, map_from, Kept, AnEdge, ATrap, from_where, edges_within}
 use Rattle.vx_inline.proofs.Numbering.{there, trap_at, IsTrap, trap_of, kind_at}
-use Rattle.vx_inline.proofs.Renamed.{reads_named, writes_named, exit_reads_named, operand_read, test_read, value_renamed, reads_renamed, writes_renamed, tests_renamed, bank_renamed, arrays_renamed, operands_renamed, place_renamed, across_renamed, text_renamed, MoveFrom, move_renamed, moves_from, out_from, access_array, SameValues, moved_same}
+use Rattle.vx_inline.proofs.Renamed.{reads_named, writes_named, exit_reads_named, operand_read, test_read, value_renamed, reads_renamed, writes_renamed, tests_renamed, bank_renamed, arrays_renamed, base_renamed, operands_renamed, place_renamed, handed_renamed, across_renamed, text_renamed, MoveFrom, move_renamed, moves_from, out_from, access_array, SameValues, moved_same}
 use Rattle.vx_inline.proofs.Taking.{taken_free, is_free}
 use Rattle.vx_inline.proofs.Rests.{moved_target, copied_target}
 use Rattle.vx_inline.proofs.Joining.{block_is, long as the_long, in_third as the_in_third, trap_place as the_trap_place, caller_low as the_caller_low, callee_low as the_callee_low, stays as the_stays, enters as the_enters, few_arrays as the_few_arrays}
@@ -286,6 +287,22 @@ module _ (flow : Flow) (site : Site) (c : CallAt flow site) (free : Bank → Lis
       let h = sound.globals c.parts.caller a g.0 (get_in flow.functions site.function c.parts.caller c.is_caller) g.1 in
       false≢true (ap (λ t. not t && not (has_base h.array)) (sym h.global) ∙ ap is_own (sym h.is) ∙ k)
 
+  -- a global of the flow has no base in the caller, and no array of the callee has one
+  no_base_at : (a : ℕ) → a < length flow.globals → base_at c.parts.caller.arrays a ≡ None
+  no_base_at a l =
+      let g = there flow.globals a l in
+      let h = sound.globals c.parts.caller a g.0 (get_in flow.functions site.function c.parts.caller c.is_caller) g.1 in
+      ap base_of h.is ∙ h.base
+
+  bare_array : (a u : ℕ) → a < length flow.globals → base_at c.parts.caller.arrays a ≡ Some u → ⊥
+  bare_array a u l e = let q : None ≡ Some u = sym (no_base_at a l) ∙ e in cc
+
+  none_given : (a u : ℕ) → base_at c.parts.callee.arrays a ≡ Some u → ⊥
+  none_given a u e =
+      let r = array_of_base c.parts.callee.arrays a u e in
+      let h = callee_sound.handed a u r.0 r.1 r.2 in
+      false≢true (sym h.0 ∙ permitted.globals_alone a r.0 r.1)
+
   callee_array : (o : Op) (a : ℕ) → HasOperation c.parts.callee o → IsIn a (arrays_of o) → a < length flow.globals
   callee_array o a h k =
       let l : a < length c.parts.callee.arrays = callee_sound.arrays o a h k in
@@ -354,19 +371,32 @@ module _ (flow : Flow) (site : Site) (c : CallAt flow site) (free : Bank → Lis
   arrays_there op a (callee_op o h e) k = array_there a (callee_array o a h (subst (IsIn a) (arrays_renamed to o) (subst (λ o. IsIn a (arrays_of o)) e k)))
   arrays_there op a (back_op w y p h e) k = let z : IsIn a [] = subst (λ o. IsIn a (arrays_of o)) e k in absurd z
 
-  -- places of local arrays are those of the caller, and are not taken
+  -- places of local arrays, and of those that were handed over, are those of the caller, and are not taken
+
+  none_handed : (o : Op) (v a u : ℕ) (i : Operand) → HasOperation c.parts.callee o → PlaceIn v a u i ≡ with_values to o → ⊥
+  none_handed o v a u i h e =
+      let r = handed_renamed to o v a u i e in
+      none_given r.1 r.2 (callee_sound.place_base r.0 r.1 r.2 r.3 (subst (HasOperation c.parts.callee) r.4 h))
+
+  placed_in : (v a u : ℕ) (i : Operand) → OpFrom (PlaceIn v a u i) → HasOperation c.parts.caller (PlaceIn v a u i)
+  placed_in v a u i (old_op h) = h
+  placed_in v a u i (moved_op q y x j e) = absurd (cc)
+  placed_in v a u i (callee_op o h e) = absurd (none_handed o v a u i h e)
+  placed_in v a u i (back_op w y r h e) = absurd (cc)
 
   old_place : (v a : ℕ) → IsPlace G v a → IsPlace c.parts.caller v a
-  old_place v a p = by (op_from (Place v a p.index) p.made)
+  old_place v a (in_own i h l) = by (op_from (Place v a i) h)
     where
-      by : OpFrom (Place v a p.index) → IsPlace c.parts.caller v a
-      by (old_op h) = record { index = p.index; made = h; own = p.own }
-      by (moved_op q y i j e) = absurd (cc)
-      by (callee_op o h e) = absurd (global_array a (callee_array o a h (place_renamed to o v a p.index e)) p.own)
+      by : OpFrom (Place v a i) → IsPlace c.parts.caller v a
+      by (old_op h) = in_own i h l
+      by (moved_op q y x j e) = absurd (cc)
+      by (callee_op o h e) = absurd (global_array a (callee_array o a h (place_renamed to o v a i e)) l)
       by (back_op w y r h e) = absurd (cc)
+  old_place v a (in_handed u i h) = in_handed u i (placed_in v a u i (op_from (PlaceIn v a u i) h))
 
   untaken : (u v a : ℕ) → IsIn u (names c.parts.callee) → v ≡ to u → IsPlace c.parts.caller v a → ⊥
-  untaken u v a k e p = (free_value u k).place a p.index (subst (λ w. HasOperation c.parts.caller (Place w a p.index)) e p.made) p.own
+  untaken u v a k e (in_own i h l) = (free_value u k).place a i (subst (λ w. HasOperation c.parts.caller (Place w a i)) e h) l
+  untaken u v a k e (in_handed b i h) = (free_value u k).place_by a b i (subst (λ w. HasOperation c.parts.caller (PlaceIn w a b i)) e h)
 
   not_argument : (x : Operand) (v a : ℕ) → IsIn x c.parts.arguments → IsIn v (value_in x) → IsPlace c.parts.caller v a → ⊥
   not_argument (Held u) v a k (inl e) p = caller_sound.place_exit v a (Call c.parts.called c.parts.arguments c.parts.result c.parts.next) p call_there (inl (subst (λ w. IsIn (Held w) c.parts.arguments) (sym e) k))
@@ -374,7 +404,7 @@ module _ (flow : Flow) (site : Site) (c : CallAt flow site) (free : Bank → Lis
   not_argument (Number n) v a k z p = z
   not_argument Stack v a k z p = z
 
-  written_place : (v a : ℕ) (op : Op) → IsPlace c.parts.caller v a → OpFrom op → IsIn v (writes op) → (i : Operand) × (op ≡ Place v a i)
+  written_place : (v a : ℕ) (op : Op) → IsPlace c.parts.caller v a → OpFrom op → IsIn v (writes op) → MakesPlace v a op
   written_place v a op p (old_op h) k = caller_sound.place_written v a op p h k
   written_place v a op p (moved_op q y i j e) k =
       elim (subst (λ o. IsIn v (writes o)) e k) [ inl d ↦ absurd (untaken q v a (in_left q c.parts.callee.parameters (flat_map named_by c.parts.callee.blocks) i) d p) | inr z ↦ absurd z ]
@@ -420,12 +450,20 @@ module _ (flow : Flow) (site : Site) (c : CallAt flow site) (free : Bank → Lis
           let s : Stays F at h.block (at i.0) = stays i.0 h.block n i.1 in
           record { block = s.into; has = get_in F (at i.0) s.into s.is; stands = subst (IsIn op) (sym s.ops) h.stands }
 
+  still_place : (v a : ℕ) → IsPlace c.parts.caller v a → IsPlace G v a
+  still_place v a (in_own i h l) = in_own i (still_there (Place v a i) h) l
+  still_place v a (in_handed u i h) = in_handed u i (still_there (PlaceIn v a u i) h)
+
+  still_base : (v : ℕ) → IsBase c.parts.caller v → IsBase G v
+  still_base v (given a e) = given a e
+  still_base v (made a x h) = made a x (still_there (Base v a x) h)
+
   placed_there : (a : ℕ) (p : Operand) (op : Op) → OpFrom op → IsAccess a p op → is_local c.parts.caller.arrays a ≡ true → ((n : ℤ) × (p ≡ Number n)) ⊎ ((v : ℕ) × (p ≡ Held v) × IsPlace G v a)
   placed_there a p op (old_op h) k l = by (caller_sound.placed a p op h k l)
     where
       by : ((n : ℤ) × (p ≡ Number n)) ⊎ ((v : ℕ) × (p ≡ Held v) × IsPlace c.parts.caller v a) → ((n : ℤ) × (p ≡ Number n)) ⊎ ((v : ℕ) × (p ≡ Held v) × IsPlace G v a)
       by (inl r) = inl r
-      by (inr r) = inr (r.0, r.1, record { index = r.2.index; made = still_there (Place r.0 a r.2.index) r.2.made; own = r.2.own })
+      by (inr r) = inr (r.0, r.1, still_place r.0 a r.2)
   placed_there a p op (moved_op q y i j e) k l = let z : IsIn a [] = subst (λ o. IsIn a (arrays_of o)) e (access_array a p op k) in absurd z
   placed_there a p op (callee_op o h e) k l = absurd (global_array a (callee_array o a h (subst (IsIn a) (arrays_renamed to o) (subst (λ o. IsIn a (arrays_of o)) e (access_array a p op k)))) l)
   placed_there a p op (back_op w y r h e) k l = let z : IsIn a [] = subst (λ o. IsIn a (arrays_of o)) e (access_array a p op k) in absurd z
@@ -444,6 +482,84 @@ module _ (flow : Flow) (site : Site) (c : CallAt flow site) (free : Bank → Lis
   across_none v u (moved_op q y i j e) = cc
   across_none v u (callee_op o h e) = let r = across_renamed to o v u e in callee_sound.no_across r.0 r.1 (subst (HasOperation c.parts.callee) r.2 h)
   across_none v u (back_op w y r h e) = cc
+
+  placed_by_there : (a u : ℕ) (p : Operand) (op : Op) → OpFrom op → IsAccess a p op → base_at c.parts.caller.arrays a ≡ Some u → (v : ℕ) × (p ≡ Held v) × IsPlace G v a
+  placed_by_there a u p op (old_op h) k b = let r = caller_sound.placed_by a u p op h k b in (r.0, r.1, still_place r.0 a r.2)
+  placed_by_there a u p op (moved_op q y i j e) k b = let z : IsIn a [] = subst (λ o. IsIn a (arrays_of o)) e (access_array a p op k) in absurd z
+  placed_by_there a u p op (callee_op o h e) k b = absurd (bare_array a u (callee_array o a h (subst (IsIn a) (arrays_renamed to o) (subst (λ o. IsIn a (arrays_of o)) e (access_array a p op k)))) b)
+  placed_by_there a u p op (back_op w y r h e) k b = let z : IsIn a [] = subst (λ o. IsIn a (arrays_of o)) e (access_array a p op k) in absurd z
+
+  -- bases are those of the caller, and are not taken
+
+  base_from_there : (v a : ℕ) (x : Operand) → OpFrom (Base v a x) → HasOperation c.parts.caller (Base v a x)
+  base_from_there v a x (old_op h) = h
+  base_from_there v a x (moved_op q y i j e) = absurd (cc)
+  base_from_there v a x (callee_op o h e) = let r = base_renamed to o v a x e in absurd (permitted.bases_none r.0 r.1 r.2 (subst (HasOperation c.parts.callee) r.3 h))
+  base_from_there v a x (back_op w y r h e) = absurd (cc)
+
+  pub old_base : (v : ℕ) → IsBase (record c.parts.caller { blocks = inlined_blocks c.parts site.block free }) v → IsBase c.parts.caller v
+  old_base v (given a e) = given a e
+  old_base v (made a x h) = made a x (base_from_there v a x (op_from (Base v a x) h))
+
+  pub new_base : (v : ℕ) → IsBase c.parts.caller v → IsBase (record c.parts.caller { blocks = inlined_blocks c.parts site.block free }) v
+  new_base v b = still_base v b
+
+  bare_there : (v a : ℕ) (i : Operand) → OpFrom (Place v a i) → base_at c.parts.caller.arrays a ≡ None
+  bare_there v a i (old_op h) = caller_sound.place_bare v a i h
+  bare_there v a i (moved_op q y x j e) = absurd (cc)
+  bare_there v a i (callee_op o h e) = no_base_at a (callee_array o a h (place_renamed to o v a i e))
+  bare_there v a i (back_op w y r h e) = absurd (cc)
+
+  untaken_base : (u v : ℕ) → IsIn u (names c.parts.callee) → v ≡ to u → IsBase c.parts.caller v → ⊥
+  untaken_base u v k e b = (free_value u k).base (subst (IsBase c.parts.caller) e b)
+
+  base_written_there : (v : ℕ) (op : Op) → IsBase c.parts.caller v → OpFrom op → IsIn v (writes op) → (a : ℕ) × (x : Operand) × (op ≡ Base v a x)
+  base_written_there v op b (old_op h) k = caller_sound.base_written v op b h k
+  base_written_there v op b (moved_op q y i j e) k =
+      elim (subst (λ o. IsIn v (writes o)) e k) [ inl d ↦ absurd (untaken_base q v (in_left q c.parts.callee.parameters (flat_map named_by c.parts.callee.blocks) i) d b) | inr z ↦ absurd z ]
+  base_written_there v op b (callee_op o h e) k = let r = writes_renamed to o v (subst (λ o. IsIn v (writes o)) e k) in absurd (untaken_base r.0 v (writes_named c.parts.callee o r.0 h r.1) r.2 b)
+  base_written_there v op b (back_op w y r h e) k =
+      elim (subst (λ o. IsIn v (writes o)) e k) [
+        | inl d ↦ absurd (caller_sound.base_result v (Call c.parts.called c.parts.arguments c.parts.result c.parts.next) b call_there (subst (λ z. IsIn v (results_of_exit (Call c.parts.called c.parts.arguments z c.parts.next))) (sym r) (inl d)))
+        | inr z ↦ absurd z
+      ]
+
+  -- no argument of the call is one: the parameter would be the base of an array that was handed to the callee
+  no_argument : (k v : ℕ) → slice_get c.parts.arguments k ≡ Some (Held v) → IsBase c.parts.caller v → ⊥
+  no_argument k v e b =
+      let called = sound.calls c.parts.caller c.parts.called c.parts.next c.parts.arguments c.parts.result (get_in flow.functions site.function c.parts.caller c.is_caller) call_there in
+      let same : called.graph ≡ c.parts.callee = (let q : Some called.graph ≡ Some c.parts.callee = sym called.is ∙ c.is_callee in cc) in
+      let many : length c.parts.callee.parameters ≡ length c.parts.arguments = ap (λ (g : Graph). length g.parameters) (sym same) ∙ called.parameters in
+      let low : k < length c.parts.arguments = slice_get_within c.parts.arguments k (Held v) e in
+      let p = there c.parts.callee.parameters k (omega (arith, many, low)) in
+      let g = (sound.handed c.parts.caller c.parts.callee c.parts.called c.parts.next k p.0 c.parts.arguments c.parts.result (Held v) (get_in flow.functions site.function c.parts.caller c.is_caller) call_there c.is_callee e p.1).0 (base b) in
+      none_given g.array p.0 g.base
+
+  base_unread : (x : Operand) (v : ℕ) → IsIn x c.parts.arguments → IsIn v (value_in x) → IsBase c.parts.caller v → ⊥
+  base_unread (Held u) v k (inl e) b =
+      let i = in_there c.parts.arguments (Held u) k in
+      no_argument i.0 v (subst (λ w. slice_get c.parts.arguments i.0 ≡ Some (Held w)) (sym e) i.1) b
+  base_unread (Held u) v k (inr z) b = z
+  base_unread (Number n) v k z b = z
+  base_unread Stack v k z b = z
+
+  base_read_there : (v : ℕ) (op : Op) → IsBase c.parts.caller v → OpFrom op → IsIn v (reads op) → (w a : ℕ) × (i : Operand) × (op ≡ PlaceIn w a v i) × (i ≡ Held v → ⊥)
+  base_read_there v op b (old_op h) k = caller_sound.base_read v op b h k
+  base_read_there v op b (moved_op q y i j e) k = absurd (base_unread y v j (subst (λ o. IsIn v (reads o)) e k) b)
+  base_read_there v op b (callee_op o h e) k = let r = reads_renamed to o v (subst (λ o. IsIn v (reads o)) e k) in absurd (untaken_base r.0 v (reads_named c.parts.callee o r.0 h r.1) r.2 b)
+  base_read_there v op b (back_op w y q h e) k = let r = value_renamed to y v (subst (λ o. IsIn v (reads o)) e k) in absurd (untaken_base r.0 v (returned_named y h r.0 r.1) r.2 b)
+
+  base_result_there : (v : ℕ) (exit : Exit) → IsBase c.parts.caller v → ExitFrom exit → IsIn v (results_of_exit exit) → ⊥
+  base_result_there v exit b (old_exit e h s) k = caller_sound.base_result v e b h (subst (IsIn v) s.results k)
+  base_result_there v exit b (split_exit t d f y z h e) k = subst (λ x. IsIn v (results_of_exit x)) e k
+  base_result_there v exit b (goto_exit d e) k = subst (λ x. IsIn v (results_of_exit x)) e k
+  base_result_there v exit b (trap_exit t e) k = subst (λ x. IsIn v (results_of_exit x)) e k
+
+  base_returned_there : (v : ℕ) (x : Operand) → IsBase c.parts.caller v → ExitFrom (Return x) → x ≡ Held v → ⊥
+  base_returned_there v x b (old_exit e h s) k = caller_sound.base_returned v x b (subst (HasExit c.parts.caller) (s.returns x refl) h) k
+  base_returned_there v x b (split_exit t d f y z h e) k = cc
+  base_returned_there v x b (goto_exit d e) k = cc
+  base_returned_there v x b (trap_exit t e) k = cc
 
   exit_operands_there : (exit : Exit) (x : Operand) → ExitFrom exit → IsIn x (operands_of_exit exit) → IsOperandOf G x
   exit_operands_there exit x (old_exit e h s) k = caller_sound.exit_operands e x h (subst (IsIn x) s.operands k)
@@ -472,6 +588,9 @@ module _ (flow : Flow) (site : Site) (c : CallAt flow site) (free : Bank → Lis
       let i = in_there F h.block h.has in
       edges_within m S rowed targets_row i.0 d (record { block = h.block; has = i.1; leads = subst (λ x. IsIn d (targets_of x)) h.ends k })
 
+  made_from : (v a : ℕ) (x : Operand) → IsMadeFrom c.parts.caller a x → IsMadeFrom G a x
+  made_from v a x m = record { array = m.array; is = m.is; bare = m.bare; from = m.from }
+
   pub graph_sound : Sound (record c.parts.caller { blocks = inlined_blocks c.parts site.block free })
   graph_sound = record {
     parameters = caller_sound.parameters;
@@ -484,11 +603,21 @@ module _ (flow : Flow) (site : Site) (c : CallAt flow site) (free : Bank → Lis
     exit_tests = λ exit v h k. exit_tests_there exit v (exit_from exit h) k;
     targets = targets_there;
     no_across = λ v u h. across_none v u (op_from (Across v u) h);
+    base_from = λ v a x h. made_from v a x (caller_sound.base_from v a x (base_from_there v a x (op_from (Base v a x) h)));
+    place_bare = λ v a i h. bare_there v a i (op_from (Place v a i) h);
+    place_base = λ v a u i h. caller_sound.place_base v a u i (placed_in v a u i (op_from (PlaceIn v a u i) h));
     place_written = λ v a op p h k. written_place v a op (old_place v a p) (op_from op h) k;
     place_read = λ v a op p h k. read_place v a op (old_place v a p) (op_from op h) k;
     place_parameter = λ v a p k. caller_sound.place_parameter v a (old_place v a p) k;
     place_exit = λ v a exit p h k. exit_place v a exit (old_place v a p) (exit_from exit h) k;
     placed = λ a p op h k l. placed_there a p op (op_from op h) k l;
+    placed_by = λ a u p op h k b. placed_by_there a u p op (op_from op h) k b;
+    handed = caller_sound.handed;
+    base_written = λ v op b h k. base_written_there v op (old_base v b) (op_from op h) k;
+    base_parameter = λ v a x h k. caller_sound.base_parameter v a x (base_from_there v a x (op_from (Base v a x) h)) k;
+    base_read = λ v op b h k. base_read_there v op (old_base v b) (op_from op h) k;
+    base_result = λ v exit b h k. base_result_there v exit (old_base v b) (exit_from exit h) k;
+    base_returned = λ v x b h k. base_returned_there v x (old_base v b) (exit_from (Return x) h) k;
     moves = λ v a b h. moves_there v a b (op_from (Compute Mov v a b) h);
   }
 
@@ -507,6 +636,16 @@ module _ (flow : Flow) (site : Site) (c : CallAt flow site) (free : Bank → Lis
 
   pub graph_calls : (f next : ℕ) (arguments : List Operand) (result : Option ℕ) → HasExit (record c.parts.caller { blocks = inlined_blocks c.parts site.block free }) (Call f arguments result next) → Callable flow f (length arguments)
   graph_calls f next arguments result h = call_from f next arguments result (exit_from (Call f arguments result next) h)
+
+  -- a call of the graph is one of the caller
+  pub graph_call : (f next : ℕ) (arguments : List Operand) (result : Option ℕ) → HasExit (record c.parts.caller { blocks = inlined_blocks c.parts site.block free }) (Call f arguments result next) → (n : ℕ) × HasExit c.parts.caller (Call f arguments result n)
+  graph_call f next arguments result h = by (exit_from (Call f arguments result next) h)
+    where
+      by : ExitFrom (Call f arguments result next) → (n : ℕ) × HasExit c.parts.caller (Call f arguments result n)
+      by (old_exit e k s) = let r = s.calls f next arguments result refl in (r.0, subst (HasExit c.parts.caller) r.1 k)
+      by (split_exit t d g y z k e) = absurd (cc)
+      by (goto_exit d e) = absurd (cc)
+      by (trap_exit t e) = absurd (cc)
 
   text_from : (n : ℕ) → OpFrom (Text n) → n < length flow.texts
   text_from n (old_op h) = sound.texts c.parts.caller n (get_in flow.functions site.function c.parts.caller c.is_caller) h

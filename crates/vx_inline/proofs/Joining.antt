@@ -268,7 +268,7 @@ module _ (flow : Flow) (site : Site) (c : CallAt flow site) (free : Bank → Lis
           let i : ℕ = length flow.globals in
           let r : (x : Array) × (slice_get c.parts.callee.arrays i ≡ Some x) = there c.parts.callee.arrays i (ltb-true i (length c.parts.callee.arrays) e) in
           let own = sound.own c.parts.callee i r.0 (get_in flow.functions c.parts.called c.parts.callee c.is_callee) r.1 (omega arith) in
-          absurd (false≢true (sym own.0 ∙ permitted.globals_alone i r.0 r.1))
+          absurd (false≢true (sym own ∙ permitted.globals_alone i r.0 r.1))
       by false e = ltb-false (length flow.globals) (length c.parts.callee.arrays) e
 
   module _ (begins : BeginsPlain flow site c) where

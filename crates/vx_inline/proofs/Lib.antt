@@ -1,6 +1,7 @@
 pub mod Renaming
 pub mod Depth
 pub mod Moving
+pub mod Fronts
 pub mod Inlines
 pub mod Taking
 pub mod Numbering

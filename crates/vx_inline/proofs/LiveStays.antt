@@ -5,7 +5,7 @@ use Rattle.std.specs.List.{flat_map}
 use Rattle.vx_flow.specs.declared.graph.Bank.{Bank}
 use Rattle.vx_flow.specs.declared.graph.Operand.{Operand}
 use Rattle.vx_flow.specs.declared.graph.Op.{Op}
-use Rattle.vx_flow.specs.declared.graph.Op.TheVariants.{Compute, Select, Place, Load, Store, More, Input, Text, Decimal, Across}
+use Rattle.vx_flow.specs.declared.graph.Op.TheVariants.{Compute, Select, Place, Base, PlaceIn, Load, Store, More, Input, Text, Decimal, Across}
 use Rattle.vx_flow.specs.declared.graph.Exit.{Exit}
 use Rattle.vx_flow.specs.declared.graph.Exit.TheVariants.{Goto, Split, Call, Return, Ends}
 use Rattle.vx_flow.specs.declared.graph.Block.{Block}
@@ -127,6 +127,10 @@ writes_there to (Select w p a b) u (inl e) = inl (ap to e)
 writes_there to (Select w p a b) u (inr z) = absurd z
 writes_there to (Place w a i) u (inl e) = inl (ap to e)
 writes_there to (Place w a i) u (inr z) = absurd z
+writes_there to (Base w a x) u (inl e) = inl (ap to e)
+writes_there to (Base w a x) u (inr z) = absurd z
+writes_there to (PlaceIn w a b i) u (inl e) = inl (ap to e)
+writes_there to (PlaceIn w a b i) u (inr z) = absurd z
 writes_there to (Load w a p d) u (inl e) = inl (ap to e)
 writes_there to (Load w a p d) u (inr z) = absurd z
 writes_there to (Store a p x) u m = absurd m

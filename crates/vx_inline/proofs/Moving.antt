@@ -6,7 +6,7 @@ use Rattle.vx_base.specs.Outcome.{Outcome, IsOver, IsFailure, IsGoing}
 use Rattle.vx_flow.specs.declared.graph.Operand.{Operand}
 use Rattle.vx_flow.specs.declared.graph.Operand.TheVariants.{Held, Number, Stack}
 use Rattle.vx_flow.specs.declared.graph.Op.{Op}
-use Rattle.vx_flow.specs.declared.graph.Op.TheVariants.{Compute, Select, Place, Load, Store, More, Input, Text, Decimal, Across}
+use Rattle.vx_flow.specs.declared.graph.Op.TheVariants.{Compute, Select, Place, Load, Store, More, Input, Text, Decimal, Across, Base, PlaceIn}
 use Rattle.vx_flow.specs.declared.graph.Exit.{Exit}
 use Rattle.vx_flow.specs.Agree.{SameWorld}
 use Rattle.vx_flow.specs.Effects.{Content, State, Setting, IsIn, held, with_value, loaded, stored, next_input, printed, effect, value_in}
@@ -88,6 +88,8 @@ effect_counts setting s (Input v) = input_counts s v s.input
 effect_counts setting s (Text n) = refl
 effect_counts setting s (Decimal x) = printed_counts s s.out (held s x)
 effect_counts setting s (Across v u) = refl
+effect_counts setting s (Base v a x) = refl
+effect_counts setting s (PlaceIn v a u i) = refl
 
 pub done_counts : (setting : Setting) (ops : List Op) (s s' : State) → done setting ops s ≡ Some s' → length s'.arrays ≡ length s.arrays
 done_counts setting [] s s' e = let q : s ≡ s' = cc in ap (λ (x : State). length x.arrays) (sym q)

@@ -46,7 +46,7 @@ limited p accepted = none_is (limit_of p) (and_parts (is_suited p) (is_none (lim
 pub few_functions : (p : Program) → is_accepted p ≡ true → length p.functions ≤ 256
 few_functions p accepted =
     let rest : Option Over =
-    or_else (over 4 8 (map (λ (f : Function). f.parameters) p.functions))
+    or_else (over 4 8 (map (λ (f : Function). length f.takes) p.functions))
     (or_else (over 5 4000 (map function_nodes p.functions))
     (or_else (over 6 8192 (map (λ (f : Function). sum f.arrays) p.functions))
     (or_else (over 7 262144 (sum (map global_words p.globals) ∷ []))

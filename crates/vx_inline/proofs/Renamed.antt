@@ -6,7 +6,7 @@ use Rattle.vx_base.specs.declared.arithmetic.Code.TheVariants.{Mov, ToBranch}
 use Rattle.vx_flow.specs.declared.graph.Operand.{Operand}
 use Rattle.vx_flow.specs.declared.graph.Operand.TheVariants.{Held, Number, Stack}
 use Rattle.vx_flow.specs.declared.graph.Op.{Op}
-use Rattle.vx_flow.specs.declared.graph.Op.TheVariants.{Compute, Select, Place, Load, Store, More, Input, Text, Decimal, Across}
+use Rattle.vx_flow.specs.declared.graph.Op.TheVariants.{Compute, Select, Place, Load, Store, More, Input, Text, Decimal, Across, Base, PlaceIn}
 use Rattle.vx_flow.specs.declared.graph.Exit.{Exit}
 use Rattle.vx_flow.specs.declared.graph.Exit.TheVariants.{Goto, Split, Call, Return, Ends}
 use Rattle.vx_flow.specs.declared.graph.Block.{Block}
@@ -79,6 +79,8 @@ operand_read (Text n) v m = absurd m
 operand_read (Decimal x) v (inl e) = held_in v x e
 operand_read (Decimal x) v (inr z) = absurd z
 operand_read (Across u w) v m = absurd m
+operand_read (Base u a x) v m = absurd m
+operand_read (PlaceIn u a w i) v m = two_read i (Held w) v m
 
 pub test_read : (op : Op) (v : ℕ) → IsIn v (tests_of op) → IsIn v (reads op)
 test_read (Compute code u a b) v m = absurd m
@@ -92,6 +94,8 @@ test_read (Input u) v m = absurd m
 test_read (Text n) v m = absurd m
 test_read (Decimal x) v m = absurd m
 test_read (Across u w) v m = absurd m
+test_read (Base u a x) v m = absurd m
+test_read (PlaceIn u a w i) v m = absurd m
 
 -- ---- with other values
 
@@ -133,6 +137,8 @@ module _ (to : ℕ → ℕ) where
   reads_renamed (Decimal x) v m = value_from x v m
   reads_renamed (Across w u) v (inl e) = (u, inl refl, e)
   reads_renamed (Across w u) v (inr z) = absurd z
+  reads_renamed (Base w a x) v m = absurd m
+  reads_renamed (PlaceIn w a u i) v m = two_values i (Held u) v m
 
   one_written : (w v : ℕ) → IsIn v (to w ∷ []) → FromOne to (w ∷ []) v
   one_written w v (inl e) = (w, inl refl, e)
@@ -149,6 +155,8 @@ module _ (to : ℕ → ℕ) where
   writes_renamed (Text n) v m = absurd m
   writes_renamed (Decimal x) v m = absurd m
   writes_renamed (Across w u) v m = one_written w v m
+  writes_renamed (Base w a x) v m = one_written w v m
+  writes_renamed (PlaceIn w a u i) v m = one_written w v m
 
   pub tests_renamed : (op : Op) (v : ℕ) → IsIn v (tests_of (with_values to op)) → (u : ℕ) × IsIn u (tests_of op) × (v ≡ to u)
   tests_renamed (Compute code w a b) v m = absurd m
@@ -161,6 +169,8 @@ module _ (to : ℕ → ℕ) where
   tests_renamed (Text n) v m = absurd m
   tests_renamed (Decimal x) v m = absurd m
   tests_renamed (Across w u) v m = absurd m
+  tests_renamed (Base w a x) v m = absurd m
+  tests_renamed (PlaceIn w a u i) v m = absurd m
 
   bank_compute : (code : Code) (w : ℕ) (a b : Operand) → bank_written (Compute code (to w) (with_value_in to a) (with_value_in to b)) ≡ bank_written (Compute code w a b)
   bank_compute (ToBranch compare) w a b = refl
@@ -177,6 +187,8 @@ module _ (to : ℕ → ℕ) where
   bank_renamed (Text n) = refl
   bank_renamed (Decimal x) = refl
   bank_renamed (Across w u) = refl
+  bank_renamed (Base w a x) = refl
+  bank_renamed (PlaceIn w a u i) = refl
 
   pub arrays_renamed : (op : Op) → arrays_of (with_values to op) ≡ arrays_of op
   arrays_renamed (Compute code w a b) = refl
@@ -189,6 +201,8 @@ module _ (to : ℕ → ℕ) where
   arrays_renamed (Text n) = refl
   arrays_renamed (Decimal x) = refl
   arrays_renamed (Across w u) = refl
+  arrays_renamed (Base w a x) = refl
+  arrays_renamed (PlaceIn w a u i) = refl
 
   abbrev OperandFrom : List Operand → Operand → Type 0
   OperandFrom xs y = (x : Operand) × IsIn x xs × (y ≡ with_value_in to x)
@@ -217,6 +231,8 @@ module _ (to : ℕ → ℕ) where
   operands_renamed (Text n) y m = absurd m
   operands_renamed (Decimal x) y m = one_operand x y m
   operands_renamed (Across w u) y m = absurd m
+  operands_renamed (Base w a x) y m = absurd m
+  operands_renamed (PlaceIn w a u i) y m = two_operands i (Held u) y m
 
   -- which operations become these
 
@@ -231,6 +247,36 @@ module _ (to : ℕ → ℕ) where
   place_renamed (Text n) v a i e = absurd (cc)
   place_renamed (Decimal x) v a i e = absurd (cc)
   place_renamed (Across w u) v a i e = absurd (cc)
+  place_renamed (Base w b x) v a i e = absurd (cc)
+  place_renamed (PlaceIn w b u j) v a i e = absurd (cc)
+
+  pub base_renamed : (op : Op) (v a : ℕ) (x : Operand) → Base v a x ≡ with_values to op → (w b : ℕ) × (y : Operand) × (op ≡ Base w b y)
+  base_renamed (Compute code w x y) v a z e = absurd (cc)
+  base_renamed (Select w p x y) v a z e = absurd (cc)
+  base_renamed (Place w b j) v a z e = absurd (cc)
+  base_renamed (Load w b p d) v a z e = absurd (cc)
+  base_renamed (Store b p x) v a z e = absurd (cc)
+  base_renamed (More w) v a z e = absurd (cc)
+  base_renamed (Input w) v a z e = absurd (cc)
+  base_renamed (Text k) v a z e = absurd (cc)
+  base_renamed (Decimal x) v a z e = absurd (cc)
+  base_renamed (Across w c) v a z e = absurd (cc)
+  base_renamed (Base w b y) v a z e = (w, b, y, refl)
+  base_renamed (PlaceIn w b u j) v a z e = absurd (cc)
+
+  pub handed_renamed : (op : Op) (v a u : ℕ) (i : Operand) → PlaceIn v a u i ≡ with_values to op → (w b t : ℕ) × (j : Operand) × (op ≡ PlaceIn w b t j)
+  handed_renamed (Compute code w x y) v a u i e = absurd (cc)
+  handed_renamed (Select w p x y) v a u i e = absurd (cc)
+  handed_renamed (Place w b j) v a u i e = absurd (cc)
+  handed_renamed (Load w b p d) v a u i e = absurd (cc)
+  handed_renamed (Store b p x) v a u i e = absurd (cc)
+  handed_renamed (More w) v a u i e = absurd (cc)
+  handed_renamed (Input w) v a u i e = absurd (cc)
+  handed_renamed (Text k) v a u i e = absurd (cc)
+  handed_renamed (Decimal x) v a u i e = absurd (cc)
+  handed_renamed (Across w c) v a u i e = absurd (cc)
+  handed_renamed (Base w b y) v a u i e = absurd (cc)
+  handed_renamed (PlaceIn w b t j) v a u i e = (w, b, t, j, refl)
 
   pub text_renamed : (op : Op) (n : ℕ) → Text n ≡ with_values to op → op ≡ Text n
   text_renamed (Compute code w x y) n e = absurd (cc)
@@ -243,6 +289,8 @@ module _ (to : ℕ → ℕ) where
   text_renamed (Text k) n e = sym e
   text_renamed (Decimal x) n e = absurd (cc)
   text_renamed (Across w u) n e = absurd (cc)
+  text_renamed (Base w a x) n e = absurd (cc)
+  text_renamed (PlaceIn w b u j) n e = absurd (cc)
 
   pub across_renamed : (op : Op) (v u : ℕ) → Across v u ≡ with_values to op → (w : ℕ) × (x : ℕ) × (op ≡ Across w x)
   across_renamed (Compute code w x y) v u e = absurd (cc)
@@ -255,6 +303,8 @@ module _ (to : ℕ → ℕ) where
   across_renamed (Text k) v u e = absurd (cc)
   across_renamed (Decimal x) v u e = absurd (cc)
   across_renamed (Across w x) v u e = (w, x, refl)
+  across_renamed (Base w a x) v u e = absurd (cc)
+  across_renamed (PlaceIn w b u0 j) v u e = absurd (cc)
 
   pub record MoveFrom (op : Op) (b : Operand) : Type 0 where
     pub value : ℕ
@@ -276,6 +326,8 @@ module _ (to : ℕ → ℕ) where
   move_renamed (Text k) v a b e = absurd (cc)
   move_renamed (Decimal x) v a b e = absurd (cc)
   move_renamed (Across w x) v a b e = absurd (cc)
+  move_renamed (Base w a1 x) v a b e = absurd (cc)
+  move_renamed (PlaceIn w c u j) v a b e = absurd (cc)
 
   -- moves
 
@@ -301,17 +353,18 @@ pub record SameValues (old new : Exit) : Type 0 where
   pub results : results_of_exit new ≡ results_of_exit old
   pub tests : tests_of_exit new ≡ tests_of_exit old
   pub calls : (f next : ℕ) (arguments : List Operand) (result : Option ℕ) → new ≡ Call f arguments result next → (n : ℕ) × (old ≡ Call f arguments result n)
+  pub returns : (x : Operand) → new ≡ Return x → old ≡ Return x
 
 pub moved_same : (m : ℕ) (es : List Edge) (i : ℕ) (at : ℕ → ℕ) (exit : Exit) → SameValues exit (relinked_exit m es i (moved at exit))
-moved_same m es i at (Goto d) = record { operands = refl; results = refl; tests = refl; calls = λ f n xs r e. absurd (cc) }
-moved_same m es i at (Split p d f) = record { operands = refl; results = refl; tests = refl; calls = λ g n xs r e. absurd (cc) }
-moved_same m es i at (Call f xs (Some v) d) = record { operands = refl; results = refl; tests = refl; calls = λ g n ys r e. (d, again f xs (Some v) d g ys r n _ e) }
+moved_same m es i at (Goto d) = record { operands = refl; results = refl; tests = refl; calls = λ f n xs r e. absurd (cc); returns = λ y e. absurd (cc) }
+moved_same m es i at (Split p d f) = record { operands = refl; results = refl; tests = refl; calls = λ g n xs r e. absurd (cc); returns = λ y e. absurd (cc) }
+moved_same m es i at (Call f xs (Some v) d) = record { operands = refl; results = refl; tests = refl; calls = λ g n ys r e. (d, again f xs (Some v) d g ys r n _ e); returns = λ y e. absurd (cc) }
   where
     again : (f : ℕ) (xs : List Operand) (v : Option ℕ) (d g : ℕ) (ys : List Operand) (r : Option ℕ) (n k : ℕ) → Call f xs v k ≡ Call g ys r n → Call f xs v d ≡ Call g ys r d
     again f xs v d g ys r n k e = let a : f ≡ g = cc in let b : xs ≡ ys = cc in let c : v ≡ r = cc in cc
-moved_same m es i at (Call f xs None d) = record { operands = refl; results = refl; tests = refl; calls = λ g n ys r e. (d, again f xs None d g ys r n _ e) }
+moved_same m es i at (Call f xs None d) = record { operands = refl; results = refl; tests = refl; calls = λ g n ys r e. (d, again f xs None d g ys r n _ e); returns = λ y e. absurd (cc) }
   where
     again : (f : ℕ) (xs : List Operand) (v : Option ℕ) (d g : ℕ) (ys : List Operand) (r : Option ℕ) (n k : ℕ) → Call f xs v k ≡ Call g ys r n → Call f xs v d ≡ Call g ys r d
     again f xs v d g ys r n k e = let a : f ≡ g = cc in let b : xs ≡ ys = cc in let c : v ≡ r = cc in cc
-moved_same m es i at (Return x) = record { operands = refl; results = refl; tests = refl; calls = λ g n xs r e. absurd (cc) }
-moved_same m es i at (Ends k) = record { operands = refl; results = refl; tests = refl; calls = λ g n xs r e. absurd (cc) }
+moved_same m es i at (Return x) = record { operands = refl; results = refl; tests = refl; calls = λ g n xs r e. absurd (cc); returns = λ y e. e }
+moved_same m es i at (Ends k) = record { operands = refl; results = refl; tests = refl; calls = λ g n xs r e. absurd (cc); returns = λ y e. absurd (cc) }

@@ -1,15 +1,15 @@
 -- An operation on values that stand elsewhere does the same.
-use Rattle.std.proofs.Common.{◌≡◌, inl, inr, ℕ, ℤ, Bool, true, false, cond, ◌==◌, List, [], ◌∷◌, ◌++◌, length, slice_set, slice_index_or, Option, Some, None, refl, sym, ap, subst, ◌∙◌, eq-eqb}
+use Rattle.std.proofs.Common.{◌≡◌, inl, inr, ℕ, ℤ, pos, Bool, true, false, cond, ◌==◌, List, [], ◌∷◌, ◌++◌, length, slice_set, slice_index_or, Option, Some, None, refl, sym, ap, subst, ◌∙◌, eq-eqb}
 use Rattle.std.proofs.lemmas.Bool.{false≢true, eqb-true}
 use Rattle.std.specs.Fmt.{signed_decimal}
 use Rattle.vx_base.specs.Arithmetic.{value_of, one_if}
 use Rattle.vx_flow.specs.declared.graph.Operand.{Operand}
 use Rattle.vx_flow.specs.declared.graph.Operand.TheVariants.{Held, Number, Stack}
 use Rattle.vx_flow.specs.declared.graph.Op.{Op}
-use Rattle.vx_flow.specs.declared.graph.Op.TheVariants.{Compute, Select, Place, Load, Store, More, Input, Text, Decimal, Across}
-use Rattle.vx_flow.specs.Effects.{Content, State, Setting, IsIn, held, is_unary, both, computed, is_one, chosen, place_of, row_of, cell_in, is_left, text_at, with_value, with_cell, loaded, stored, next_input, printed, effect, value_in}
+use Rattle.vx_flow.specs.declared.graph.Op.TheVariants.{Compute, Select, Place, Load, Store, More, Input, Text, Decimal, Across, Base, PlaceIn}
+use Rattle.vx_flow.specs.Effects.{Content, State, Setting, IsIn, held, is_unary, both, computed, is_one, chosen, place_of, place_by, row_of, cell_in, is_left, text_at, with_value, with_cell, loaded, stored, next_input, printed, effect, value_in}
 use Rattle.vx_flow.specs.Operands.{with_value_in, with_values}
-use Rattle.vx_flow.proofs.EffectsAlike.{Refined}
+use Rattle.vx_flow.proofs.EffectsAlike.{Refined, place_by_refined}
 use Rattle.vx_flow.proofs.Members.{in_left, in_right}
 use Rattle.vx_inline.specs.Renaming.{Carried, AreApart, Within, CarriedTo, EffectIsRenamed}
 
@@ -165,6 +165,12 @@ module _ (named : ℕ → Type 0) (keeps : ℕ → ℤ → Type 0) (to : ℕ →
       out_done s t s' (s.out ++ text_at g n) (t.out ++ text_at h n) c (ap (λ p. p ++ text_at h n) c.world.out ∙ ap (λ ts. s.out ++ slice_index_or ts n []) w.texts) e
   effect_renamed g h (Decimal x) s t s' w c e = printed_done s t s' s.out t.out (held s x) (held t (with_value_in to x)) c c.world.out (held_renamed s t x c w.reads) e
   effect_renamed g h (Across v u) s t s' w c e = value_done s t s' v (s.values u) (t.values (to u)) c (w.writes v (inl refl)) (λ n f. c.values u n (w.reads u (inl refl)) f) e
+  effect_renamed g h (Base v b x) s t s' w c e =
+      value_done s t s' v (Some (pos (g.spot b))) (Some (pos (h.spot b))) c (w.writes v (inl refl)) (λ n f. ap (λ k. Some (pos k)) (w.spots b (inl refl)) ∙ f) e
+  effect_renamed g h (PlaceIn v b u i) s t s' w c e =
+      value_done s t s' v (place_by (s.values u) (held s i)) (place_by (t.values (to u)) (held t (with_value_in to i))) c (w.writes v (inl refl))
+      (place_by_refined (s.values u) (t.values (to u)) (held s i) (held t (with_value_in to i)) (λ n f. c.values u n (w.reads u (in_right u (value_in i) (u ∷ []) (inl refl))) f)
+      (held_renamed s t i c (λ z m. w.reads z (in_left z (value_in i) (u ∷ []) m)))) e
 
 pub effect_is_renamed : EffectIsRenamed
 effect_is_renamed values kept to a g h op s t s' w c e = effect_renamed (λ v. IsIn v values) (λ x n. kept x ≡ Some n) to a g h op s t s' w c e

@@ -6,13 +6,13 @@ use Rattle.vx_flow.specs.declared.graph.Operand.{Operand}
 use Rattle.vx_flow.specs.declared.graph.Operand.TheVariants.{Held, Number}
 use Rattle.vx_flow.specs.declared.graph.Bank.{Bank}
 use Rattle.vx_flow.specs.declared.graph.Bank.TheVariants.{General, Branch}
-use Rattle.vx_flow.specs.declared.graph.Op.TheVariants.{Compute, Place, Decimal}
+use Rattle.vx_flow.specs.declared.graph.Op.TheVariants.{Compute, Place, Decimal, Base, PlaceIn}
 use Rattle.vx_flow.specs.declared.graph.Exit.TheVariants.{Call, Return}
 use Rattle.vx_flow.specs.declared.graph.Block.{Block}
 use Rattle.vx_flow.specs.declared.graph.Graph.{Graph}
 use Rattle.vx_flow.specs.Effects.{IsIn, value_in}
 use Rattle.vx_flow.specs.Live.{IsLive, here, beyond, ReadsFirst}
-use Rattle.vx_flow.specs.Sound.{HasOperation, HasExit, Has, targets_of}
+use Rattle.vx_flow.specs.Sound.{HasOperation, HasExit, Has, IsBase, given, made, targets_of}
 use Rattle.vx_inline.specs.declared.site.Site.{Site}
 use Rattle.vx_inline.specs.Inlined.{IsPermitted, CallAt, CallsTo, Reaches, calls, through, OnCycle, IsFree, AreFree, Ascends, named, move}
 use Rattle.vx_inline.specs.Rows.{row_of_values, first_block, last_block, twice, before, the_site, RowIsInlined, RowIsNotPermitted, RowIsChosen, RowHasNone, EdgesGetBlocks}
@@ -85,6 +85,28 @@ place_none n v a i h = by (blocks_of n h.block h.has)
     by (inl e) = elim (subst (λ (x : Block). IsIn (Place v a i) x.ops) e h.stands) [ inl q ↦ (let k : Place v a i ≡ move 0 (Number (pos 4)) = q in cc) | inr z ↦ z ]
     by (inr e) = elim (subst (λ (x : Block). IsIn (Place v a i) x.ops) e h.stands) [ inl q ↦ (let k : Place v a i ≡ Decimal (Held 1) = q in cc) | inr z ↦ z ]
 
+place_in_none : (n v a u : ℕ) (i : Operand) → HasOperation (row_of_values n (first_block ∷ last_block ∷ [])) (PlaceIn v a u i) → ⊥
+place_in_none n v a u i h = by (blocks_of n h.block h.has)
+  where
+    by : (h.block ≡ first_block) ⊎ (h.block ≡ last_block) → ⊥
+    by (inl e) = elim (subst (λ (x : Block). IsIn (PlaceIn v a u i) x.ops) e h.stands) [ inl q ↦ (let k : PlaceIn v a u i ≡ move 0 (Number (pos 4)) = q in cc) | inr z ↦ z ]
+    by (inr e) = elim (subst (λ (x : Block). IsIn (PlaceIn v a u i) x.ops) e h.stands) [ inl q ↦ (let k : PlaceIn v a u i ≡ Decimal (Held 1) = q in cc) | inr z ↦ z ]
+
+base_none : (n v : ℕ) → IsBase (row_of_values n (first_block ∷ last_block ∷ [])) v → ⊥
+base_none n v (given zero e) = let q : Option.None ≡ Some v = e in cc
+base_none n v (given (suc a) e) = let q : Option.None ≡ Some v = e in cc
+base_none n v (made a x h) = by (blocks_of n h.block h.has)
+  where
+    by : (h.block ≡ first_block) ⊎ (h.block ≡ last_block) → ⊥
+    by (inl e) = elim (subst (λ (z : Block). IsIn (Base v a x) z.ops) e h.stands) [ inl q ↦ (let k : Base v a x ≡ move 0 (Number (pos 4)) = q in cc) | inr z ↦ z ]
+    by (inr e) = elim (subst (λ (z : Block). IsIn (Base v a x) z.ops) e h.stands) [ inl q ↦ (let k : Base v a x ≡ Decimal (Held 1) = q in cc) | inr z ↦ z ]
+
+twice_makes_none : (v a : ℕ) (x : Operand) → HasOperation twice (Base v a x) → ⊥
+twice_makes_none v a x h = elim h.has [ inl e ↦ by e | inr z ↦ z ]
+  where
+    by : h.block ≡ record { ops = Compute Code.Add 1 (Held 0) (Held 0) ∷ []; exit = Return (Held 1) } → ⊥
+    by e = elim (subst (λ (z : Block). IsIn (Base v a x) z.ops) e h.stands) [ inl q ↦ (let k : Base v a x ≡ Compute Code.Add 1 (Held 0) (Held 0) = q in cc) | inr z ↦ z ]
+
 abbrev the_call : (n : ℕ) → CallAt (before n) the_site
 the_call n = record {
   parts = record { caller = row_of_values n (first_block ∷ last_block ∷ []); block = first_block; called = 1; arguments = Held 0 ∷ []; result = Some 1; next = 1; callee = twice };
@@ -108,6 +130,8 @@ free_here v n m = record {
   argument = λ k. unread v n k;
   result = λ (e : Some 1 ≡ Some v). m (let q : 1 ≡ v = cc in sym q);
   place = λ a i h l. place_none 4 v a i h;
+  place_by = λ a u i h. place_in_none 4 v a u i h;
+  base = λ b. base_none 4 v b;
 }
 
 general_free : (v : ℕ) → IsIn v (2 ∷ 3 ∷ []) → Has (row_of_values 4 (first_block ∷ last_block ∷ [])) v General × IsFree (the_call 4).parts v
@@ -153,6 +177,7 @@ the_permitted = record {
   alone = on_none 4 0;
   apart = λ f o r. on_none 4 f o;
   calls_none = twice_calls_none;
+  bases_none = twice_makes_none;
   globals_alone = λ a array e. absurd (cc);
   are_free = frees;
   enough = enough_free;

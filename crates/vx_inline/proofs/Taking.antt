@@ -11,7 +11,7 @@ use Rattle.vx_flow.specs.declared.graph.Operand.TheVariants.{Held, Number, Stack
 use Rattle.vx_flow.specs.declared.graph.Bank.{Bank}
 use Rattle.vx_flow.specs.declared.graph.Bank.TheVariants.{General, Branch}
 use Rattle.vx_flow.specs.declared.graph.Op.{Op}
-use Rattle.vx_flow.specs.declared.graph.Op.TheVariants.{Compute, Select, Place, Load, Store, More, Input, Text, Decimal, Across}
+use Rattle.vx_flow.specs.declared.graph.Op.TheVariants.{Compute, Select, Place, Load, Store, More, Input, Text, Decimal, Across, Base, PlaceIn}
 use Rattle.vx_flow.specs.declared.graph.Exit.{Exit}
 use Rattle.vx_flow.specs.declared.graph.Exit.TheVariants.{Goto, Split, Call, Return, Ends}
 use Rattle.vx_flow.specs.declared.graph.Block.{Block}
@@ -147,6 +147,8 @@ module _ (g : Graph) (sound : Sound g) where
   reads_banked (Text n) v at m = absurd m
   reads_banked (Decimal x) v at m = operand_banked x v (sound.operands (Decimal x) x at (inl refl)) m
   reads_banked (Across u w) v at m = absurd (sound.no_across u w at)
+  reads_banked (Base u a x) v at m = absurd m
+  reads_banked (PlaceIn u a w i) v at m = two_banked i (Held w) v (sound.operands (PlaceIn u a w i) i at (inl refl)) (sound.operands (PlaceIn u a w i) (Held w) at (inr (inl refl))) m
 
   module _ (calls_none : (f next : ℕ) (arguments : List Operand) (result : Option ℕ) → HasExit g (Call f arguments result next) → ⊥) where
     exit_banked : (exit : Exit) (v : ℕ) → HasExit g exit → IsIn v (reads_of_exit exit) → Banked g v

@@ -10,7 +10,7 @@ use Rattle.vx_flow.specs.declared.graph.Operand.TheVariants.{Number}
 use Rattle.vx_flow.specs.declared.graph.Bank.{Bank}
 use Rattle.vx_flow.specs.declared.graph.Bank.TheVariants.{General}
 use Rattle.vx_flow.specs.declared.graph.Op.{Op}
-use Rattle.vx_flow.specs.declared.graph.Op.TheVariants.{Compute, Place}
+use Rattle.vx_flow.specs.declared.graph.Op.TheVariants.{Compute, Place, Base, PlaceIn}
 use Rattle.vx_flow.specs.declared.graph.Exit.{Exit}
 use Rattle.vx_flow.specs.declared.graph.Exit.TheVariants.{Goto, Split, Call, Return, Ends}
 use Rattle.vx_flow.specs.declared.graph.Block.{Block}
@@ -21,7 +21,7 @@ use Rattle.vx_flow.specs.declared.graph.Edge.{Edge}
 use Rattle.vx_flow.specs.Effects.{IsIn, value_in, reads, writes}
 use Rattle.vx_flow.specs.Live.{IsLive, reads_of_exit}
 use Rattle.vx_flow.specs.Operands.{with_value_in, with_values, value_list}
-use Rattle.vx_flow.specs.Sound.{HasOperation, HasExit, Has, is_bank, is_local, targets_of, results_of_exit}
+use Rattle.vx_flow.specs.Sound.{HasOperation, HasExit, Has, IsBase, is_bank, is_local, targets_of, results_of_exit}
 use Rattle.vx_flow.specs.Walk.{ascending, edge, numbers}
 use Rattle.vx_inline.specs.declared.site.Site.{Site}
 use Rattle.vx_shape.specs.Flows.{with_graphs}
@@ -88,6 +88,8 @@ pub record IsFree (c : TheCall) (v : ℕ) : Type 0 where
   pub argument : IsIn v (flat_map value_in c.arguments) → ⊥
   pub result : c.result ≡ Some v → ⊥
   pub place : (a : ℕ) (i : Operand) → HasOperation c.caller (Place v a i) → is_local c.caller.arrays a ≡ true → ⊥
+  pub place_by : (a u : ℕ) (i : Operand) → HasOperation c.caller (PlaceIn v a u i) → ⊥
+  pub base : IsBase c.caller v → ⊥
 
 abbrev pub Ascends : List ℕ → Type 0
 Ascends [] = Unit {0}
@@ -104,8 +106,10 @@ pub record IsPermitted (flow : Flow) (site : Site) (c : CallAt flow site) (free 
   -- the caller is on no cycle of calls, and no function on one calls it, directly or through others
   pub alone : OnCycle flow site.function → ⊥
   pub apart : (f : ℕ) → OnCycle flow f → Reaches flow f site.function → ⊥
-  -- the callee has no call, and no array but globals
+  -- the callee has no call, makes no base, and has no array but globals. One that was handed over is none: accesses to it name it by
+  -- the base that the callee is entered with, which the caller has for another of its arrays, if for any
   pub calls_none : (f next : ℕ) (arguments : List Operand) (result : Option ℕ) → HasExit c.parts.callee (Call f arguments result next) → ⊥
+  pub bases_none : (v a : ℕ) (x : Operand) → HasOperation c.parts.callee (Base v a x) → ⊥
   pub globals_alone : (a : ℕ) (array : Array) → slice_get c.parts.callee.arrays a ≡ Some array → array.global ≡ true
   -- of each bank there are as many free values as the callee names
   pub are_free : (bank : Bank) → AreFree c.parts bank (free bank)

@@ -5,7 +5,7 @@ use Rattle.vx_flow.specs.declared.graph.Array.{Array}
 use Rattle.vx_flow.specs.declared.graph.Bank.{Bank}
 use Rattle.vx_flow.specs.declared.graph.Bank.TheVariants.{General, Branch}
 use Rattle.vx_flow.specs.declared.graph.Op.{Op}
-use Rattle.vx_flow.specs.declared.graph.Op.TheVariants.{Compute, Select, Place, Load, Store, More, Input, Text, Decimal, Across}
+use Rattle.vx_flow.specs.declared.graph.Op.TheVariants.{Compute, Select, Place, Load, Store, More, Input, Text, Decimal, Across, Base, PlaceIn}
 use Rattle.vx_flow.specs.declared.graph.Block.{Block}
 use Rattle.vx_flow.specs.Effects.{value_in}
 use Rattle.vx_flow.specs.Operands.{value_list}
@@ -28,7 +28,7 @@ marked_all (v ∷ vs) marks = marked_all vs (slice_set marks v true)
 abbrev pub is_listed : List Bank → (marks : List Bool) → (marked : Bool) → Bank → ℕ → Bool
 is_listed banks marks marked bank v = is_bank bank (slice_get banks v) && (if marked then is_marked marks v else not (is_marked marks v))
 
--- the value that an operation writes as a place of an array that is no global
+-- the value that an operation writes as a place of an array that is no global, or as a base
 abbrev pub local_place : List Array → Op → List ℕ
 local_place arrays (Compute code v a b) = []
 local_place arrays (Select v p a b) = []
@@ -40,13 +40,19 @@ local_place arrays (Input v) = []
 local_place arrays (Text n) = []
 local_place arrays (Decimal x) = []
 local_place arrays (Across v u) = []
+local_place arrays (Base v a x) = v ∷ []
+local_place arrays (PlaceIn v a u i) = v ∷ []
 
 abbrev pub local_places : List Array → Block → List ℕ
 local_places arrays block = flat_map (local_place arrays) block.ops
 
+-- the bases of arrays that were handed over
+abbrev pub given_bases : List Array → List ℕ
+given_bases arrays = flat_map (λ (array : Array). value_list array.base) arrays
+
 -- the values that are not free, where these rows list what is live at each block of the caller
 abbrev pub kept : (rows : List (List ℕ)) → TheCall → List ℕ
-kept rows c = row_at rows c.next ++ flat_map value_in c.arguments ++ value_list c.result ++ flat_map (local_places c.caller.arrays) c.caller.blocks
+kept rows c = row_at rows c.next ++ flat_map value_in c.arguments ++ value_list c.result ++ flat_map (local_places c.caller.arrays) c.caller.blocks ++ given_bases c.caller.arrays
 
 -- the free ones of a bank, ascending
 abbrev pub free_of : (rows : List (List ℕ)) → TheCall → Bank → List ℕ

@@ -3,13 +3,13 @@
 ghost use Rattle.std.specs.Prelude.{◌≡◌, ◌≤◌, length};
 ghost use Rattle.vx_flow.specs.Operands.{value_list};
 ghost use Rattle.vx_inline.specs.Finding.{seen};
-ghost use Rattle.vx_inline.specs.Fitting.{are_global, are_left_short, calls_nothing, fits, has_few, is_calling, is_entered_short, is_left_short};
+ghost use Rattle.vx_inline.specs.Fitting.{are_global, are_left_short, calls_nothing, fits, has_few, is_base_made, is_calling, is_entered_short, is_left_short, make_no_bases, makes_no_base};
 
 use crate::found_call::FoundCall;
-use vx_flow::graph::{Array, Block, Exit, Value};
+use vx_flow::graph::{Array, Block, Exit, Op, Value};
 use vx_shape::shape_test::MOST_OPS;
 
-/// Whether the callee has no call and no array but globals, and the blocks stay short.
+/// Whether the callee has no call, makes no base and has no array but globals, and the blocks stay short.
 pub(crate) fn fits(found: &FoundCall) -> bool
     ensures { result ≡ fits (seen found.now) }
 {
@@ -17,6 +17,7 @@ pub(crate) fn fits(found: &FoundCall) -> bool
         && are_global(found.callee.arrays.as_slice())
         && is_entered_short(found)
         && are_left_short(found.callee.blocks.as_slice(), found.result)
+        && make_no_bases(found.callee.blocks.as_slice())
 }
 
 /// Whether no block ends by a call.
@@ -50,6 +51,38 @@ pub(crate) fn are_global(arrays: &[Array]) -> bool
         }
     }
     true
+}
+
+/// Whether no block makes the base of an array.
+fn make_no_bases(blocks: &[Block]) -> bool
+    ensures { result ≡ make_no_bases blocks.now }
+{
+    for block in blocks {
+        if !makes_no_base(block.ops.as_slice()) {
+            return false;
+        }
+    }
+    true
+}
+
+fn makes_no_base(ops: &[Op]) -> bool
+    ensures { result ≡ makes_no_base ops.now }
+{
+    for op in ops {
+        if is_base_made(op) {
+            return false;
+        }
+    }
+    true
+}
+
+fn is_base_made(op: &Op) -> bool
+    ensures { result ≡ is_base_made op.now }
+{
+    match op {
+        Op::Base { .. } => true,
+        _ => false,
+    }
 }
 
 /// Whether the block that calls is short with a move for each argument.

@@ -4,10 +4,9 @@ ghost use Rattle.std.specs.Prelude.{◌≡◌, ◌++◌, IfOk};
 ghost use Rattle.std.specs.List.{flat_map};
 ghost use Rattle.vx_flow.specs.declared.graph.Bank.{Bank};
 ghost use Rattle.vx_inline.specs.Finding.{seen};
-ghost use Rattle.vx_inline.specs.Values.{free_of, has_values, kept, local_place, local_places, of_bank};
+ghost use Rattle.vx_inline.specs.Values.{free_of, given_bases, has_values, kept, local_place, local_places, of_bank};
 
 use crate::by_bank::{ByBank, by_bank, named};
-use crate::fitting::are_global;
 use crate::found_call::FoundCall;
 use crate::marks::marks_of;
 use crate::names::push_operands;
@@ -44,8 +43,8 @@ pub(crate) fn has_values(alloc: Global, live: &Live, found: &FoundCall) -> Resul
     Ok(named.general.len() <= free.general.len() && named.branch.len() <= free.branch.len())
 }
 
-/// The values that are not free: those that are live behind the call, its arguments and its result, and places of arrays that
-/// are no globals.
+/// The values that are not free: those that are live behind the call, its arguments and its result, places of arrays that are no
+/// globals, and bases.
 fn kept(alloc: Global, live: &Live, found: &FoundCall) -> Result<Listed<Value>, NoMemory>
     ensures { IfOk result (λ values. values ≡ kept live.now (seen found.now)) }
 {
@@ -54,24 +53,12 @@ fn kept(alloc: Global, live: &Live, found: &FoundCall) -> Result<Listed<Value>, 
     push_value(&mut values, found.result)?;
     let arrays = found.caller.arrays.as_slice();
     push_places(&mut values, arrays, found.caller.blocks.as_slice())?;
+    push_bases(&mut values, arrays)?;
     Ok(values)
 }
 
-/// Adds the places of arrays that are no globals; no operation is looked at where all are globals.
+/// Adds the places of arrays that are no globals, and the bases that are made.
 fn push_places(
-    values: &mut Listed<Value>,
-    arrays: &[Array],
-    blocks: &[Block],
-) -> Result<(), NoMemory>
-    ensures { IfOk result (λ _. values.new ≡ values.old ++ flat_map (local_places arrays.now) blocks.now) }
-{
-    if are_global(arrays) {
-        return Ok(());
-    }
-    push_own_places(values, arrays, blocks)
-}
-
-fn push_own_places(
     values: &mut Listed<Value>,
     arrays: &[Array],
     blocks: &[Block],
@@ -103,6 +90,20 @@ fn push_place(values: &mut Listed<Value>, arrays: &[Array], op: &Op) -> Result<(
             }
             Ok(())
         }
+        Op::PlaceIn { to, .. } | Op::Base { to, .. } => {
+            values.push(*to)?;
+            Ok(())
+        }
         _ => Ok(()),
     }
+}
+
+/// Adds the bases of arrays that were handed over.
+fn push_bases(values: &mut Listed<Value>, arrays: &[Array]) -> Result<(), NoMemory>
+    ensures { IfOk result (λ _. values.new ≡ values.old ++ given_bases arrays.now) }
+{
+    for array in arrays {
+        push_value(values, array.base)?;
+    }
+    Ok(())
 }

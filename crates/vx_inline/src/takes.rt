@@ -149,5 +149,21 @@ pub(crate) fn renamed(table: &[Value], op: &Op) -> Op
             to: value_at(table, *to),
             from: value_at(table, *from),
         },
+        Op::Base { to, array, from } => Op::Base {
+            to: value_at(table, *to),
+            array: *array,
+            from: *from,
+        },
+        Op::PlaceIn {
+            to,
+            array,
+            base,
+            index,
+        } => Op::PlaceIn {
+            to: value_at(table, *to),
+            array: *array,
+            base: value_at(table, *base),
+            index: renamed_operand(table, index),
+        },
     }
 }

@@ -32,7 +32,7 @@ pub accepted_small : (p : Program) → is_accepted p ≡ true → AreSmall p.fun
 unfolding is_accepted
 accepted_small p accepted f function at =
     let o3 : Option Over = over 3 256 (length p.functions ∷ []) in
-    let o4 : Option Over = over 4 8 (map (λ (f : Function). f.parameters) p.functions) in
+    let o4 : Option Over = over 4 8 (map (λ (f : Function). length f.takes) p.functions) in
     let o5 : Option Over = over 5 4000 (map function_nodes p.functions) in
     let o6 : Option Over = over 6 8192 (map (λ (f : Function). sum f.arrays) p.functions) in
     let o7 : Option Over = over 7 262144 (sum (map global_words p.globals) ∷ []) in
