@@ -6,7 +6,7 @@ use vx_ast::token::{Keyword, Mark, Token, TokenKind};
 use vx_base::listed::{Bytes, copied};
 use vx_base::outcome::NoMemory;
 
-/// The names of the arrays that a function declares, in their order.
+/// The names of the arrays that a function takes and then of those that it declares, in their order.
 #[derive(Drop)]
 pub struct OwnNames {
     /// The names.
@@ -18,7 +18,7 @@ pub struct OwnNames {
 pub struct ArrayNames {
     /// Of the globals, in their order.
     pub globals: Vec<Bytes>,
-    /// Of the functions' own arrays, function by function.
+    /// Of the arrays that functions take and declare, function by function.
     pub own: Vec<OwnNames>,
 }
 
@@ -44,7 +44,7 @@ enum Role {
     Function,
     /// The name of a global that is declared.
     Global,
-    /// The name of an array that is declared in a function.
+    /// The name of an array that a function takes or declares.
     Own,
     /// Any other.
     Other,
@@ -64,7 +64,11 @@ fn is_mark(token: Option<&Token>, mark: Mark) -> bool {
 fn role_of(spot: Spot, next: Option<&Token>) -> Role {
     let is_declared = spot.declares && spot.begins && spot.inner == 0;
     if spot.in_head {
-        return Role::Other;
+        return if is_mark(next, Mark::OpenBracket) {
+            Role::Own
+        } else {
+            Role::Other
+        };
     }
     if spot.braces == 0 && is_mark(next, Mark::OpenParenthesis) {
         return Role::Function;

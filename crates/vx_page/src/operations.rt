@@ -122,6 +122,25 @@ fn put_place(page: &mut Page, names: &Names, to: Value, array: ArrayId, index: &
     put_operand(page, index);
 }
 
+fn put_base(page: &mut Page, names: &Names, to: Value, array: ArrayId) {
+    put_to(page, to);
+    page.put(b"base ");
+    put_array(page, names, array);
+}
+
+fn put_place_in(
+    page: &mut Page,
+    names: &Names,
+    to: Value,
+    array: ArrayId,
+    base: Value,
+    index: &Operand,
+) {
+    put_place(page, names, to, array, index);
+    page.put(b" from ");
+    put_value(page, base);
+}
+
 fn put_from_input(page: &mut Page, to: Value, name: &[u8]) {
     put_to(page, to);
     page.put(name);
@@ -166,6 +185,13 @@ pub fn put_op(page: &mut Page, names: &Names, op: &Op) {
         Op::Text { number } => put_text(page, names, *number),
         Op::Decimal { from } => put_decimal(page, from),
         Op::Across { to, from } => put_across(page, *to, *from),
+        Op::Base { to, array, .. } => put_base(page, names, *to, *array),
+        Op::PlaceIn {
+            to,
+            array,
+            base,
+            index,
+        } => put_place_in(page, names, *to, *array, *base, index),
     }
 }
 
