@@ -16,7 +16,7 @@ use Rattle.vx_flow.specs.declared.graph.Graph.{Graph}
 use Rattle.vx_flow.specs.declared.graph.Array.{Array}
 use Rattle.vx_flow.specs.declared.graph.Flow.{Flow}
 use Rattle.vx_flow.specs.Effects.{Content, State, Setting, held, is_one, effect, IsIn}
-use Rattle.vx_flow.specs.Meaning.{Hop, Arrives, Wrong, known, by_test, calls, leaves, leave, and_then, block_hop, hop_of, Body, Program, Frame, Active, deepest, undefined, at_entry, entered, enters, returned, waits, after_hop, body_hop, hop, next, body_of, program_of, setting_with, globals_at_start, entered_or, start, graph_run}
+use Rattle.vx_flow.specs.Meaning.{Hop, Arrives, Wrong, known, by_test, calls, leaves, leave, and_then, block_hop, hop_of, Body, Program, Frame, Active, deepest, undefined, at_entry, entered, spots_held, spots_for, enters_with, enters, bases_in, words_in, returned, waits, after_hop, body_hop, hop, next, body_of, program_of, setting_with, globals_at_start, entered_or, start, graph_run}
 use Rattle.vx_flow.proofs.RunLaws.{flow_grows}
 use Rattle.vx_clean.specs.Cleaning.{Place, Heads, ExitMeets, Comes, GoesOn, Stands, GraphCleaned, FunctionCleaned, Cleaned, CleanedRuns}
 use Rattle.vx_shape.specs.Flows.{with_graphs}
@@ -134,14 +134,22 @@ module _ (flow : Flow) (graphs : List Graph) (at : ℕ → ℕ → List Place) (
   cond_joined false c x y x' y' e h k = subst (λ z. StepJoined y (cond z x' y')) (sym e) k
 
   entered_same : (ns : List ℤ) (s : State) (x y : Graph) → y.parameters ≡ x.parameters → y.arrays ≡ x.arrays → entered (body_of (length flow.globals) y) ns s ≡ entered (body_of (length flow.globals) x) ns s
-  entered_same ns s x y p a = λ i. record s { values = at_entry (p i) ns; arrays = s.arrays ++ map undefined (map (λ (k : Array). k.words) (drop (length flow.globals) (a i))) }
+  entered_same ns s x y p a = λ i. record s { values = at_entry (p i) ns; arrays = s.arrays ++ map undefined (words_in (drop (length flow.globals) (a i))) }
 
   body_joined : (g : ℕ) (ns : List ℤ) (s : State) (fs gs : List Frame) (o o' : Option Graph) → FunctionCleaned (at g) o o' → FramesTied fs gs → StepJoined (enters g (as_body o) ns s fs) (enters g (as_body o') ns s gs)
   body_joined g ns s fs gs None None c k = (refl, λ h. h)
   body_joined g ns s fs gs None (Some h) c k = absurd c
   body_joined g ns s fs gs (Some x) None c k = absurd c
   body_joined g ns s fs gs (Some x) (Some y) c k =
-      (0, gs, ap (λ (u : State). record { function = g; block = 0; passed = []; base = length s.arrays; state = u; waiting = gs }) (entered_same ns s x y c.parameters c.arrays), c.entry, k)
+      subst (λ spots. StepJoined (enters g (as_body (Some x)) ns s fs) (enters_with g (as_body (Some y)) ns s gs spots)) (sym spots_same) (by (spots_for (as_body (Some x)) ns s))
+    where
+      spots_same : spots_for (as_body (Some y)) ns s ≡ spots_for (as_body (Some x)) ns s
+      spots_same = λ i. spots_held (length s.arrays) (at_entry (c.parameters i) ns) (bases_in (drop (length flow.globals) (c.arrays i)))
+
+      by : (spots : Option (List (Option ℕ))) → StepJoined (enters_with g (as_body (Some x)) ns s fs spots) (enters_with g (as_body (Some y)) ns s gs spots)
+      by None = (refl, λ h. h)
+      by (Some passed) =
+          (0, gs, ap (λ (u : State). record { function = g; block = 0; passed = passed; base = length s.arrays; state = u; waiting = gs }) (entered_same ns s x y c.parameters c.arrays), c.entry, k)
 
   returned_joined : (n : ℤ) (s : State) (base : ℕ) (fs gs : List Frame) → FramesTied fs gs → StepJoined (returned n s base fs) (returned n s base gs)
   returned_joined n s base [] [] k = (refl, λ h. h)

@@ -44,7 +44,7 @@ limited p accepted = none_is (limit_of p) (and_parts (is_suited p) (is_none (lim
 pub few_nodes : (p : Program) (i : ℕ) (f : Function) → is_accepted p ≡ true → slice_get p.functions i ≡ Some f → function_nodes f ≤ 4000
 few_nodes p i f accepted at =
     let nodes : over 5 4000 (map function_nodes p.functions) ≡ None =
-    third (over 3 256 (length p.functions ∷ [])) (over 4 8 (map (λ f. f.parameters) p.functions)) (over 5 4000 (map function_nodes p.functions))
+    third (over 3 256 (length p.functions ∷ [])) (over 4 8 (map (λ f. length f.takes) p.functions)) (over 5 4000 (map function_nodes p.functions))
     (or_else (over 6 8192 (map (λ f. sum f.arrays) p.functions))
     (or_else (over 7 262144 (sum (map global_words p.globals) ∷ []))
     (over 8 4096 (flat_map (λ f. map (λ format. length format) (formats_of f.body)) p.functions))))

@@ -10,7 +10,10 @@ use Rattle.vx_ast.specs.Meaning.{source}
 use Rattle.vx_flow.specs.declared.graph.Graph.{Graph}
 use Rattle.vx_flow.specs.declared.graph.Flow.{Flow}
 use Rattle.vx_flow.specs.declared.graph.Op.{Op}
+use Rattle.vx_flow.specs.Apart.{GlobalsFirst}
 use Rattle.vx_flow.specs.Meaning.{graph_run}
+use Rattle.vx_flow.proofs.Entering.{globals_first}
+use Rattle.vx_flow.proofs.SoundFlowLaw.{flow_is}
 use Rattle.vx_isa.specs.declared.program.WordProgram.{WordProgram}
 use Rattle.vx_isa.specs.Machine.{words_run}
 use Rattle.vx_isa.specs.Numbers.{Numbers, IsMachine}
@@ -19,7 +22,7 @@ use Rattle.vx_lower.specs.FlowOf.{FlowOf, AreNumbers}
 use Rattle.vx_machine.specs.Items.{latency_of_op}
 use Rattle.vx_mixed.specs.declared.mixed.MixedGraph.{MixedGraph}
 use Rattle.vx_mixed.specs.declared.layout.VWords.{VWords}
-use Rattle.vx_motion.specs.Context.{EachOfGraph, BothStep}
+use Rattle.vx_motion.specs.Context.{EachOfGraph, BothStep, HaveGlobalsFirst}
 use Rattle.vx_mixed.specs.FromGraph.{OfGraph}
 use Rattle.vx_layout.specs.Laid.{laid_run}
 use Rattle.vx_layout.specs.LayoutLaws.{SameFrame, BothLaidOut}
@@ -74,6 +77,16 @@ begin_so n machine (graph ∷ graphs) (l ∷ ls) h zero = still_of h.0.begun n g
 begin_so n machine (graph ∷ graphs) (l ∷ ls) h (suc f) = begin_so (n + 1) machine graphs ls h.1 f
 begin_so n machine [] (l ∷ ls) h f = absurd h
 begin_so n machine (graph ∷ graphs) [] h f = absurd h
+
+begin_first : (globals n : ℕ) (machine : Numbers) (graphs : List Graph) (ls : List VWords) (h : AreLayoutsFrom n machine graphs ls) →
+    ((f : ℕ) (g : Graph) → slice_get graphs f ≡ Some g → GlobalsFirst globals g.arrays) → HaveGlobalsFirst globals (begun_of n machine graphs ls h)
+begin_first globals n machine [] [] h first f m e = absurd (cc)
+begin_first globals n machine (graph ∷ graphs) (l ∷ ls) h first zero m e =
+    let q : record (h.0.begun) { function = n } ≡ m = cc in
+    subst (λ (x : MixedGraph). GlobalsFirst globals x.arrays) q (subst (GlobalsFirst globals) (sym h.0.from.blocks.arrays) (first 0 graph refl))
+begin_first globals n machine (graph ∷ graphs) (l ∷ ls) h first (suc f) m e = begin_first globals (n + 1) machine graphs ls h.1 (λ k g. first (suc k) g) f m e
+begin_first globals n machine [] (l ∷ ls) h first f m e = absurd h
+begin_first globals n machine (graph ∷ graphs) [] h first f m e = absurd h
 
 all_step : (n : ℕ) (machine : Numbers) (graphs : List Graph) (ls : List VWords) (h : AreLayoutsFrom n machine graphs ls) (f : ℕ) →
     BothStep (latency_of_op machine) (slice_get (begun_of n machine graphs ls h) f) (slice_get (done_of n machine graphs ls h) f)
@@ -150,11 +163,14 @@ module _ (laws : StageLaws) (p : Program) (flow : Flow) (machine : Numbers) (ls 
       like laws.transitive p input (graph_run flow input) (mixed_run flow soon latency begun input)
       (laws.means flow begun (begin_so 0 machine flow.functions ls laid) soon latency input) (graphs_do input numbers)
 
+  begun_first : HaveGlobalsFirst (length flow.globals) begun
+  begun_first = begin_first (length flow.globals) 0 machine flow.functions ls laid (globals_first flow (flow_is flow is.sound))
+
   done_do : (input : List ℤ) → AreNumbers input → Does p input (mixed_run flow soon latency done input)
   done_do input numbers =
       let before = begun_do input numbers in
       on laws.transitive p input (mixed_run flow soon latency begun input) (mixed_run flow soon latency done input) before
-      (laws.steps flow soon latency begun done input some_time (all_step 0 machine flow.functions ls laid) before.never)
+      (laws.steps flow soon latency begun done input some_time begun_first (all_step 0 machine flow.functions ls laid) before.never)
 
   pub laid_do : (input : List ℤ) → AreNumbers input → Does p input (laid_run flow ls input)
   laid_do input numbers =

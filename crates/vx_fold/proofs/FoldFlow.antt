@@ -4,7 +4,7 @@ use Rattle.std.specs.List.{list_all}
 use Rattle.vx_flow.specs.declared.graph.Operand.{Operand}
 use Rattle.vx_flow.specs.declared.graph.Operand.TheVariants.{Held, Number, Stack}
 use Rattle.vx_flow.specs.declared.graph.Op.{Op}
-use Rattle.vx_flow.specs.declared.graph.Op.TheVariants.{Compute, Select, Place, Load, Store, More, Input, Text, Decimal, Across}
+use Rattle.vx_flow.specs.declared.graph.Op.TheVariants.{Compute, Select, Place, Load, Store, More, Input, Text, Decimal, Across, Base, PlaceIn}
 use Rattle.vx_flow.specs.declared.graph.Exit.{Exit}
 use Rattle.vx_flow.specs.declared.graph.Exit.TheVariants.{Goto, Split, Call, Return, Ends}
 use Rattle.vx_flow.specs.declared.graph.Block.{Block}
@@ -46,6 +46,8 @@ op_settles (Input v) = refl
 op_settles (Text n) = refl
 op_settles (Decimal x) = refl
 op_settles (Across v u) = refl
+op_settles (Base v a x) = refl
+op_settles (PlaceIn v a u i) = refl
 
 result_free : (result : Option ℕ) → is_free none result ≡ true
 result_free None = refl
@@ -89,6 +91,8 @@ same_op (Input v) = refl
 same_op (Text n) = refl
 same_op (Decimal x) = ap Decimal (same_operand x)
 same_op (Across v u) = refl
+same_op (Base v a x) = refl
+same_op (PlaceIn v a u i) = ap (PlaceIn v a u) (same_operand i)
 
 same_operands : (xs : List Operand) → map (folded none) xs ≡ xs
 same_operands [] = refl
@@ -147,6 +151,8 @@ folded_is numbers (Input v) n = refl
 folded_is numbers (Text k) n = refl
 folded_is numbers (Decimal x) n = refl
 folded_is numbers (Across v u) n = refl
+folded_is numbers (Base v a x) n = refl
+folded_is numbers (PlaceIn v a u i) n = refl
 
 pub folded_by : (numbers : ℕ → Option ℤ) (op new : Op) (x y : Operand) → new ≡ with_two op x y → x ≡ folded numbers (first_operand op) → y ≡ folded numbers (second_operand op) → ((v p : ℕ) (a b : Operand) → op ≡ Select v p a b → ⊥) → new ≡ folded_op numbers op
 folded_by numbers op new x y e p q n = e ∙ ap (λ z. with_two op z y) p ∙ ap (with_two op (folded numbers (first_operand op))) q ∙ folded_is numbers op n

@@ -9,10 +9,10 @@ use Rattle.vx_base.specs.Arithmetic.{value_of, product_of, one_if}
 use Rattle.vx_flow.specs.declared.graph.Operand.{Operand}
 use Rattle.vx_flow.specs.declared.graph.Operand.TheVariants.{Held, Number, Stack}
 use Rattle.vx_flow.specs.declared.graph.Op.{Op}
-use Rattle.vx_flow.specs.declared.graph.Op.TheVariants.{Compute, Select, Place, Load, Store, More, Input, Text, Decimal, Across}
+use Rattle.vx_flow.specs.declared.graph.Op.TheVariants.{Compute, Select, Place, Load, Store, More, Input, Text, Decimal, Across, Base, PlaceIn}
 use Rattle.vx_flow.specs.declared.graph.Exit.{Exit}
 use Rattle.vx_flow.specs.declared.graph.Exit.TheVariants.{Goto, Split, Call, Return, Ends}
-use Rattle.vx_flow.specs.Effects.{Content, State, Setting, held, is_unary, both, is_one, computed, chosen, place_of, row_of, cell_in, cell_of, with_value, with_cell, loaded, stored, next_input, printed, is_left, effect}
+use Rattle.vx_flow.specs.Effects.{Content, State, Setting, held, is_unary, both, is_one, computed, chosen, place_of, place_by, row_of, cell_in, cell_of, with_value, with_cell, loaded, stored, next_input, printed, is_left, effect}
 use Rattle.vx_flow.specs.Meaning.{Hop, Arrives, with_front, at_entry, with_result, known, by_test, leave, and_then, block_hop}
 use Rattle.vx_flow.specs.Agree.{SameWorld, Agree}
 use Rattle.vx_flow.proofs.EffectsAlike.{Refined, Done, effect_alike}
@@ -130,6 +130,10 @@ module _ (numbers : ℕ → Option ℤ) where
   effect_folded setting (Decimal x) t t0 h = ap (printed t0 t.out) (held_folded t x)
   effect_folded setting (Across v u) t t0 h =
       ap (λ o. Some (with_value t0 v (number_or o (t.values u)))) (sym (none_by (numbers u) (and_parts _ _ h).1))
+  effect_folded setting (Base v a x) t t0 h = refl
+  effect_folded setting (PlaceIn v a u i) t t0 h =
+      ap (λ x. Some (with_value t0 v (place_by (t.values u) x))) (held_folded t i)
+      ∙ ap (λ o. Some (with_value t0 v (place_by (number_or o (t.values u)) (held (over t) i)))) (sym (none_by (numbers u) (and_parts _ _ h).1))
 
   op_done : (setting : Setting) (op : Op) (s t s' : State) → settles numbers op ≡ true → Settled numbers s.values → Agree All s t → effect setting s op s ≡ Some s' → Done All s' (effect setting t (folded_op numbers op) t)
   op_done setting op s t s' h i a e =
@@ -220,6 +224,8 @@ module _ (numbers : ℕ → Option ℤ) where
   op_settled setting (Text n) s s' h i e = values_by (record s { out = s.out ++ slice_index_or setting.texts n [] }) s' e i
   op_settled setting (Decimal x) s s' h i e = printed_settled s s' s.out (held s x) i e
   op_settled setting (Across v u) s s' h i e = written_by s s' v (s.values u) (and_parts _ _ h).0 i e
+  op_settled setting (Base v a x) s s' h i e = written_by s s' v (Some (pos (setting.spot a))) h i e
+  op_settled setting (PlaceIn v a u x) s s' h i e = written_by s s' v (place_by (s.values u) (held s x)) (and_parts _ _ h).0 i e
 
   -- ---- exits
 

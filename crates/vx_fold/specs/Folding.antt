@@ -9,7 +9,7 @@ use Rattle.vx_ast.specs.Tree.{Function, Program}
 use Rattle.vx_flow.specs.declared.graph.Operand.{Operand}
 use Rattle.vx_flow.specs.declared.graph.Operand.TheVariants.{Held, Number, Stack}
 use Rattle.vx_flow.specs.declared.graph.Op.{Op}
-use Rattle.vx_flow.specs.declared.graph.Op.TheVariants.{Compute, Select, Place, Across}
+use Rattle.vx_flow.specs.declared.graph.Op.TheVariants.{Compute, Select, Place, Across, PlaceIn}
 use Rattle.vx_flow.specs.declared.graph.Exit.{Exit}
 use Rattle.vx_flow.specs.declared.graph.Exit.TheVariants.{Goto, Split, Call, Return, Ends}
 use Rattle.vx_flow.specs.declared.graph.Block.{Block}
@@ -45,11 +45,13 @@ abbrev pub is_free : (ℕ → Option ℤ) → Option ℕ → Bool
 is_free numbers None = true
 is_free numbers (Some v) = no_number (numbers v)
 
--- what writes a value with a number computes that number, or is the place at such an index, and a copy across reads no such value
+-- what writes a value with a number computes that number, or is the place at such an index; a copy across reads no such value, and no
+-- such value is a base
 abbrev pub settles : (ℕ → Option ℤ) → Op → Bool
 settles numbers (Compute code v a b) = gives (numbers v) (computed code (number_in numbers a) (number_in numbers b))
 settles numbers (Place v a i) = gives (numbers v) (place_of (number_in numbers i))
 settles numbers (Across v u) = no_number (numbers v) && no_number (numbers u)
+settles numbers (PlaceIn v a u i) = no_number (numbers v) && no_number (numbers u)
 settles numbers op = is_free numbers (written_by op)
 
 abbrev pub settles_exit : (ℕ → Option ℤ) → Exit → Bool

@@ -110,6 +110,7 @@ fn settles(numbers: &[Option<i32>], op: &Op) -> bool
             place_of(number_in(numbers, index)),
         ),
         Op::Across { to, from } => is_without(numbers, *to) && is_without(numbers, *from),
+        Op::PlaceIn { to, base, .. } => is_without(numbers, *to) && is_without(numbers, *base),
         _ => is_free(numbers, written_by(op)),
     }
 }

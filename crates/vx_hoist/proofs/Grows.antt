@@ -1,12 +1,12 @@
 -- One block with more silent operations at its end, from states that agree on what is read.
-use Rattle.std.proofs.Common.{◌≡◌, ℕ, ◌==◌, Bool, true, false, cond, ℤ, List, [], ◌∷◌, ◌++◌, Option, Some, None, refl, sym, ap, ◌∙◌, subst}
+use Rattle.std.proofs.Common.{◌≡◌, ℕ, ◌==◌, Bool, true, false, cond, ℤ, pos, List, [], ◌∷◌, ◌++◌, Option, Some, None, refl, sym, ap, ◌∙◌, subst}
 use Rattle.std.proofs.lemmas.Bool.{and_parts, false≢true, eqb-true}
 use Rattle.std.specs.List.{list_all}
 use Rattle.vx_flow.specs.declared.graph.Op.{Op}
-use Rattle.vx_flow.specs.declared.graph.Op.TheVariants.{Compute, Select, Place, Load, Store, More, Input, Text, Decimal, Across}
+use Rattle.vx_flow.specs.declared.graph.Op.TheVariants.{Compute, Select, Place, Load, Store, More, Input, Text, Decimal, Across, Base, PlaceIn}
 use Rattle.vx_flow.specs.declared.graph.Exit.{Exit}
 use Rattle.vx_flow.specs.declared.graph.Block.{Block}
-use Rattle.vx_flow.specs.Effects.{Content, State, Setting, held, computed, chosen, place_of, row_of, cell_of, with_value, loaded, effect, reads}
+use Rattle.vx_flow.specs.Effects.{Content, State, Setting, held, computed, chosen, place_of, place_by, row_of, cell_of, with_value, loaded, effect, reads}
 use Rattle.vx_flow.specs.Live.{reads_of_exit}
 use Rattle.vx_flow.specs.Meaning.{leave, and_then, block_hop, hop_of}
 use Rattle.vx_flow.specs.Agree.{Agree}
@@ -57,6 +57,8 @@ module _ (unread : ℕ → Bool) where
   added setting (Text n) s t h u g = absurd (false≢true h)
   added setting (Decimal x) s t h u g = absurd (false≢true h)
   added setting (Across v w) s t h u g = absurd (false≢true h)
+  added setting (Base v a x) s t h u g = added_value s t v (Some (pos (setting.spot a))) u g
+  added setting (PlaceIn v a w i) s t h u g = added_value s t v (place_by (t.values w) (held t i)) u g
 
   -- ---- operations, and then the exit
 

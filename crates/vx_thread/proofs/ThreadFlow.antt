@@ -30,6 +30,9 @@ use Rattle.vx_clean.proofs.LinkTests.{begun_if, linked_if}
 use Rattle.vx_clean.proofs.Stays.{graph_itself}
 use Rattle.vx_narrow.specs.Rewriting.{narrowed_graph}
 use Rattle.vx_narrow.specs.Narrowing.{are_numbers, GraphNarrowed, GraphsNarrowed, NarrowedWith}
+use Rattle.vx_flow.specs.Apart.{GlobalsFirst, HasGlobalsFirst}
+use Rattle.vx_flow.proofs.Entering.{globals_first}
+use Rattle.vx_flow.proofs.SoundFlowLaw.{flow_is}
 use Rattle.vx_narrow.proofs.Staged.{narrowed_graphs_run}
 use Rattle.vx_thread.specs.Threading.{AreShaped, Copied, Threaded, ThreadedStays}
 
@@ -69,6 +72,15 @@ graph_by p function (Some g) (Some x) (Some y) c k old h e s =
     let q : y ≡ h = cc in
     graph_of p function g h (subst (Kept g) q (kept_then g x y c.is k)) (old g refl) s
 
+-- what is copied and what is old have the same globals
+first_by : (n : ℕ) (o q : Option Graph) → At Copied o q → ((g : Graph) → o ≡ Some g → GlobalsFirst n g.arrays) → (h : Graph) → q ≡ Some h → GlobalsFirst n h.arrays
+first_by n None None c old h e = absurd (cc)
+first_by n None (Some y) c old h e = absurd c
+first_by n (Some g) None c old h e = absurd c
+first_by n (Some g) (Some y) c old h e =
+    let q : y ≡ h = cc in
+    subst (λ (x : Graph). GlobalsFirst n x.arrays) q (subst (λ (x : Graph). GlobalsFirst n x.arrays) (sym c.is) (old g refl))
+
 -- ---- runs
 
 abbrev places_by : (o q : Option Graph) → At Copied o q → ℕ → List Place
@@ -92,8 +104,9 @@ threaded_stays flow graphs t numbers sound p o =
     let cleaned : Cleaned places flow between = λ f. cleaned_by (slice_get flow.functions f) (slice_get between f) (at f) in
     let both : (input : List ℤ) → AreNumbers input → Same (graph_run flow input) (graph_run middle input) × NeverFails (graph_run middle input) =
     λ input ns. cleaned_runs flow between places cleaned input (o.runs.never_wrong input ns) in
+    let first : HasGlobalsFirst middle = λ f g e. first_by (length flow.globals) (slice_get flow.functions f) (slice_get between f) (at f) (λ h r. globals_first flow (flow_is flow o.sound) f h r) g e in
     let runs : (input : List ℤ) → AreNumbers input → graph_run (with_graphs flow graphs) input ≡ graph_run middle input =
-    λ input ns. (let b = both input ns in λ i k. narrowed_graphs_run middle graphs t.narrowed numbers input ns b.1 k i) in
+    λ input ns. (let b = both input ns in λ i k. narrowed_graphs_run middle graphs t.narrowed numbers first input ns b.1 k i) in
     let kept : Each Kept between graphs = kept_each t.narrowed.0 0 between graphs t.narrowed.1 in
     let also : (f : ℕ) → At Kept (slice_get between f) (slice_get graphs f) = each_at Kept between graphs kept in
     record {
