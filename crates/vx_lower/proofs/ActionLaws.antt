@@ -1,29 +1,28 @@
 -- The graph follows a simple statement, and prints what a format says.
-use Rattle.std.proofs.Common.{◌≡◌, ℕ, zero, suc, ◌+◌, ◌<◌, ◌≤◌, ◌⊎◌, ◌*◌, ◌^◌, ℤ, pos, negsuc, Bool, true, false, cond, ◌&&◌, ◌||◌, List, [], ◌∷◌, ◌++◌, length, map, slice_index_or, Option, Some, None, refl, sym, ap, ◌∙◌, subst, inl, inr, arith, append_assoc, append-nil}
-use Rattle.std.specs.Prelude.{nat_lt, nat_eq, slice_get}
+use Rattle.std.proofs.Common.{◌≡◌, ℕ, ◌<◌, ◌≤◌, ℤ, pos, Bool, true, false, ◌||◌, List, [], ◌∷◌, ◌++◌, map, slice_index_or, Some, None, refl, sym, ap, ◌∙◌, subst, inl, inr, arith, append_assoc, append-nil}
+use Rattle.std.specs.Prelude.{nat_eq, slice_get}
 use Rattle.std.specs.Fmt.{signed_decimal}
 use Rattle.std.proofs.lemmas.Option.{get_or_from_slice_get}
 use Rattle.vx_base.specs.Arithmetic.{IsNumber, product_of, sum_of, difference_of}
 use Rattle.vx_base.specs.declared.arithmetic.Code.TheVariants.{Add, Sub}
 use Rattle.vx_base.proofs.ArithmeticLaws.{value_fits_law}
-use Rattle.vx_ast.specs.declared.tree.BinaryOperator.{BinaryOperator}
-use Rattle.vx_ast.specs.Tree.{Shape, One, Row, Tree, Literal, Local, Global, Element, Unary, Binary, Both, Either, Choice, Apply, ReadInt, MoreInput, Place, InLocal, InGlobal, InElement, Action, Evaluate, Assign, Compound, Increase, Decrease, Program as TreeProgram}
-use Rattle.vx_ast.specs.Meaning.{Store, Part, With, Trapped, Going, Leaves, Falls, Breaks, Continues, Returns, and_then, Calls, numbers_given, Result, value, combined, changes, acts, with_scalar, with_word, word_at, array_at, at_index, index_in, at_element, Piece, AByte, ANumber, printed, prints}
+use Rattle.vx_ast.specs.Tree.{Shape, One, Row, Tree, Literal, Local, Global, Element, Unary, Binary, Both, Either, Choice, Apply, ReadInt, MoreInput, Place, InLocal, InGlobal, InElement, Action, Program as TreeProgram}
+use Rattle.vx_ast.specs.Meaning.{Store, Part, With, Leaves, Falls, Breaks, Continues, Returns, and_then, Calls, Result, value, combined, changes, acts, with_scalar, with_word, word_at, Piece, AByte, printed, prints}
 use Rattle.vx_ast.specs.Accepted.{Scope, is_in, suits, suits_place, suits_whole, suits_action, takes_of_row, can_call, is_scalar, names_array}
 use Rattle.vx_flow.specs.declared.graph.Operand.{Operand}
 use Rattle.vx_flow.specs.declared.graph.Operand.TheVariants.{Held, Number, Stack}
 use Rattle.vx_flow.specs.declared.graph.Op.TheVariants.{Compute, Load, Store as Keep, Text, Decimal}
 use Rattle.vx_flow.specs.declared.graph.Exit.TheVariants.{Call}
 use Rattle.vx_flow.specs.declared.graph.Block.{Block}
-use Rattle.vx_flow.specs.Effects.{Content, State, Setting, held, with_value, with_cell, effect, printed as shown, text_at}
+use Rattle.vx_flow.specs.Effects.{Content, State, held, with_value, with_cell, printed as shown}
 use Rattle.vx_flow.specs.Meaning.{Program, known}
-use Rattle.vx_lower.specs.Holds.{Goes, IsBelow, Way, To, Into, Tested, Holds, then_op, ends}
+use Rattle.vx_lower.specs.Holds.{Goes, IsBelow, Way, To, Holds, then_op, ends}
 use Rattle.vx_lower.specs.Does.{is_call, Change, By, Up, Down, action_of, Changes, by, up, down, Acts, evaluate, call, assign_local, assign_global, assign_element, change_local, change_global, change_element, Shows, done, number, bytes}
 use Rattle.vx_lower.proofs.Base.{and_one, and_two, four_times, SameRow}
 use Rattle.vx_lower.proofs.Steps.{Here, setting_at, HasBlocks, Comes, comes_self, comes_on, comes_goes, comes_past, Gives, bind, bind_with, shift}
 use Rattle.vx_lower.specs.Seen.{Sees}
-use Rattle.vx_lower.proofs.Ties.{InRange, InForce, Above, above_on, Tied, Keeps, held_kept, below_on, keeps_value, value_there, computes, known_all, tied_value, tied_scalar, tied_word, row_length as words_of_row, loads, stores}
-use Rattle.vx_lower.proofs.Values.{takes_given, passed_by, Numbers, head_of, one_fits, Fitting, Gained, Landed, Good, Came_back, CallsMeet, land, combines, checks}
+use Rattle.vx_lower.proofs.Ties.{InForce, Above, above_on, Tied, held_kept, below_on, keeps_value, value_there, computes, known_all, tied_value, tied_scalar, tied_word, row_length as words_of_row, loads, stores}
+use Rattle.vx_lower.proofs.Values.{takes_given, passed_by, head_of, one_fits, Fitting, Landed, Good, Came_back, CallsMeet, land, combines, checks}
 use Rattle.vx_lower.proofs.Exprs.{row_takes, expr_runs}
 
 pub record BothScopes (wide narrow : Scope) : Type 0 where

@@ -1,23 +1,20 @@
 -- The code of simple statements.
-use Rattle.std.proofs.Common.{◌≡◌, ◌⊎◌, ℕ, zero, suc, ◌+◌, ◌<◌, ◌≤◌, ℤ, pos, Bool, true, false, List, [], ◌∷◌, ◌++◌, length, Option, Some, None, refl, sym, ap, ◌∙◌, subst, inl, inr, arith}
-use Rattle.std.specs.Prelude.{slice_get, slice_set}
+use Rattle.std.proofs.Common.{◌≡◌, ℕ, ◌<◌, ◌≤◌, pos, false, List, length, Option, Some, None, refl, sym, ap, ◌∙◌, subst, arith}
 use Rattle.vx_base.specs.declared.arithmetic.Code.TheVariants.{Add, Sub}
 use Rattle.vx_ast.specs.declared.tree.BinaryOperator.{BinaryOperator}
 use Rattle.vx_ast.specs.Tree.{One, Row, Tree, Apply, Place, InLocal, InGlobal, InElement, Action, Evaluate, Assign}
 use Rattle.vx_flow.specs.declared.graph.Operand.{Operand}
 use Rattle.vx_flow.specs.declared.graph.Operand.TheVariants.{Held, Number}
-use Rattle.vx_flow.specs.declared.graph.Op.{Op}
 use Rattle.vx_flow.specs.declared.graph.Op.TheVariants.{Compute, Load, Store}
 use Rattle.vx_flow.specs.declared.graph.Exit.TheVariants.{Call}
 use Rattle.vx_flow.specs.declared.graph.Block.{Block}
 use Rattle.vx_lower.specs.Seen.{Sees}
-use Rattle.vx_lower.specs.Holds.{IsBelow, Goes, same, Checks, Way, To, Into, Tested, Lands, fresh, into, Holds, then_op, ends}
-use Rattle.vx_lower.specs.Does.{Change, By, Up, Down, action_of, Changes, by, up, down, is_call, Acts, evaluate, call, assign_local, assign_global, assign_element, change_local, change_global, change_element}
-use Rattle.vx_lower.specs.Builds.{reserved, closed, Ready, Grows, Finishes, Opens, From, Puts}
-use Rattle.vx_lower.specs.Emits.{way_of, Lasts, Checked, Combined, IsWithin, Emits, EmitsRow}
-use Rattle.vx_lower.specs.Makes.{PlaceWithin, ChangeWithin, ActionWithin, step_change, Alters, Acted}
+use Rattle.vx_lower.specs.Holds.{same, Way, To, Into, Tested, Lands, fresh, into, ends}
+use Rattle.vx_lower.specs.Does.{Change, By, Up, Down, action_of, Changes, by, up, down, is_call, evaluate, call, assign_local, assign_global, assign_element, change_local, change_global, change_element}
+use Rattle.vx_lower.specs.Builds.{reserved, closed, Ready, Grows, Finishes, Opens, Puts}
+use Rattle.vx_lower.specs.Emits.{way_of, Lasts, Checked, Combined, Emits, EmitsRow}
+use Rattle.vx_lower.specs.Makes.{PlaceWithin, ChangeWithin, ActionWithin, Alters, Acted}
 use Rattle.vx_lower.specs.declared.builder.Builder.{Builder}
-use Rattle.vx_lower.proofs.Ties.{below_on}
 use Rattle.vx_lower.proofs.Building.{grows_on, grows_reserved, grows_closed, finishes_back, before_closed, closed_stands, opens_closed}
 use Rattle.vx_lower.proofs.PieceMaking.{lands_on}
 use Rattle.vx_lower.proofs.Emitting.{within_on, spare_reserved}

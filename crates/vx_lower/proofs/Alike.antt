@@ -1,7 +1,6 @@
 -- What a run comes to does not depend on the blocks that the waiting functions called from.
-use Rattle.std.proofs.Common.{◌≡◌, ℕ, zero, suc, ◌+◌, ℤ, pos, Bool, true, false, cond, nat_le, List, [], ◌∷◌, length, Option, Some, None, refl, sym, ap, ◌∙◌, subst}
-use Rattle.vx_base.specs.Outcome.{Outcome, Step, On, Over, step_then, run}
-use Rattle.vx_base.specs.declared.outcome.Trap.{Trap}
+use Rattle.std.proofs.Common.{◌≡◌, ℕ, zero, suc, ◌+◌, ℤ, Bool, true, false, cond, nat_le, List, [], ◌∷◌, length, Option, Some, None, refl, sym, ap, ◌∙◌, subst}
+use Rattle.vx_base.specs.Outcome.{Outcome, Step, step_then, run}
 use Rattle.vx_flow.specs.Effects.{State}
 use Rattle.vx_flow.specs.Meaning.{Hop, Arrives, Calls, Leaves, Stops, Wrong, Body, Program, Frame, Active, deepest, spots_for, enters_with, enters, returned, waits, after_hop, body_hop, hop, next}
 

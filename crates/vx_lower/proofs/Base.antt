@@ -1,17 +1,14 @@
 -- Tests, numbers and lists by place, as the simulation needs them.
-use Rattle.std.proofs.Common.{◌≡◌, ℕ, zero, suc, ◌+◌, ◌-◌, ◌*◌, ◌/◌, ◌%◌, ◌^◌, ◌<◌, ◌≤◌, ◌⊎◌, ℤ, pos, negsuc, ◌*ℤ◌, Bool, true, false, cond, not, ◌&&◌, List, [], ◌∷◌, ◌++◌, length, map, slice_index_or, slice_set, Option, Some, None, refl, sym, ap, ◌∙◌, subst, inl, inr, arith, ltb-true, lt-ltb}
+use Rattle.std.proofs.Common.{◌≡◌, ℕ, zero, suc, ◌+◌, ◌*◌, ◌/◌, ◌%◌, ◌^◌, ◌<◌, ℤ, pos, negsuc, Bool, true, false, cond, not, ◌&&◌, List, [], ◌∷◌, length, map, slice_index_or, slice_set, Some, None, refl, ap, ◌∙◌, arith, lt-ltb}
 use Rattle.std.specs.Prelude.{nat_eq, nat_lt}
-use Rattle.std.proofs.lemmas.Bool.{ne_eqb, eqb-true}
-use Rattle.std.proofs.lemmas.Bool.Decides.{eqb_tells}
-use Rattle.std.proofs.lemmas.List.{get_or-set_same, get_or-set_other, get_or_past, length-set, length-map}
+use Rattle.std.proofs.lemmas.Bool.{ne_eqb}
 use Rattle.std.proofs.lemmas.Int.{ints, fits_signed_from_abs}
-use Rattle.std.proofs.Math.ListN.{get_or-map}
 use Rattle.std.specs.Int.{w32}
 use Rattle.vx_base.specs.Arithmetic.{IsNumber, one_if, compare_of, product_of, sum_of}
-use Rattle.vx_base.specs.declared.arithmetic.Compare.TheVariants.{Eq, Ne, Ltu, Lt}
+use Rattle.vx_base.specs.declared.arithmetic.Compare.TheVariants.{Eq, Ne, Ltu}
 use Rattle.vx_base.proofs.ArithmeticLaws.{index_check_law, equal-true}
 use Rattle.vx_base.proofs.WrapLaws.{product_of-exact, sum_of-exact, unsigned_number}
-use Rattle.vx_ast.specs.Meaning.{unless_zero, index_in}
+use Rattle.vx_ast.specs.Meaning.{unless_zero}
 use Rattle.vx_flow.specs.Effects.{Content, cell_in}
 
 pub and_one : (a b : Bool) → (a && b) ≡ true → a ≡ true

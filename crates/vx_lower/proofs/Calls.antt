@@ -1,27 +1,26 @@
 -- The graphs follow calls.
-use Rattle.std.proofs.Common.{◌≡◌, ℕ, zero, suc, ◌+◌, ◌-◌, ◌*◌, ◌<◌, ◌≤◌, ◌⊎◌, ◌^◌, ℤ, pos, negsuc, Bool, true, false, cond, ◌&&◌, List, [], ◌∷◌, ◌++◌, length, map, take, drop, replicate, slice_index_or, Option, Some, None, refl, sym, ap, ◌∙◌, subst, inl, inr, arith, nat_le, lt-ltb}
-use Rattle.std.specs.Prelude.{nat_lt, nat_eq, slice_get}
+use Rattle.std.proofs.Common.{◌≡◌, ℕ, zero, suc, ◌+◌, ◌-◌, ◌*◌, ◌<◌, ◌≤◌, ℤ, pos, true, false, cond, List, [], ◌∷◌, ◌++◌, length, map, take, drop, replicate, slice_index_or, Option, Some, None, refl, sym, ap, ◌∙◌, subst, inl, inr, arith, nat_le}
+use Rattle.std.specs.Prelude.{slice_get}
 use Rattle.std.specs.Option.{option_map}
-use Rattle.std.proofs.lemmas.Option.{slice_get_cases, slice_get_within}
-use Rattle.std.proofs.lemmas.Bool.{cases_lt, eqb-true}
+use Rattle.std.proofs.lemmas.Option.{slice_get_cases}
+use Rattle.std.proofs.lemmas.Bool.{cases_lt}
 use Rattle.std.proofs.lemmas.List.{length-map, length-append}
 use Rattle.vx_base.specs.Arithmetic.{IsNumber}
-use Rattle.vx_base.specs.Outcome.{Outcome, Traps, Goes as Unfinished, Step, On, Over, step_then, run}
+use Rattle.vx_base.specs.Outcome.{Traps, On, Over, step_then, run}
 use Rattle.vx_base.specs.declared.outcome.Trap.TheVariants.{Depth}
 use Rattle.vx_ast.specs.declared.tree.Takes.{Takes}
-use Rattle.vx_ast.specs.Tree.{Shape, One, Row, Function, Program as TreeProgram}
-use Rattle.vx_ast.specs.Meaning.{Store, Part, With, Trapped, Going, Leaves, Falls, Breaks, Continues, Returns, Calls, Argument, numbers_given, arrays_given, does, spot_in as place_in, back_in, result_of, entered as entered_source, activate, active, deepest as source_deepest}
-use Rattle.vx_ast.specs.Accepted.{Scope, is_in, scope_after, is_accepted, in_force_at_start, global_words, numbers_taken, arrays_taken, numbers_among, arrays_among, same_takes, can_call}
+use Rattle.vx_ast.specs.Tree.{Function, Program as TreeProgram}
+use Rattle.vx_ast.specs.Meaning.{Store, Part, With, Trapped, Going, Leaves, Falls, Breaks, Continues, Returns, Argument, numbers_given, arrays_given, does, spot_in as place_in, result_of, entered as entered_source, activate, active, deepest as source_deepest}
+use Rattle.vx_ast.specs.Accepted.{Scope, scope_after, is_accepted, in_force_at_start, global_words, numbers_taken, arrays_taken, numbers_among, arrays_among, same_takes, can_call}
 use Rattle.vx_flow.specs.declared.graph.Operand.{Operand}
-use Rattle.vx_flow.specs.declared.graph.Operand.TheVariants.{Held, Number}
+use Rattle.vx_flow.specs.declared.graph.Operand.TheVariants.{Number}
 use Rattle.vx_flow.specs.declared.graph.Exit.TheVariants.{Call, Return}
 use Rattle.vx_flow.specs.declared.graph.Block.{Block}
 use Rattle.vx_flow.specs.declared.graph.Graph.{Graph}
 use Rattle.vx_flow.specs.declared.graph.Flow.{Flow}
-use Rattle.vx_flow.specs.Effects.{Content, State, held}
-use Rattle.vx_flow.specs.Meaning.{Hop, Body, Program, Frame, Active, known, calls, leaves, hop_of, block_hop, after_hop, body_hop, next, spot_behind, spot_in, spots_held, enters_with, enters, bases_in, words_in, returned, waits, with_result, at_entry, undefined, entered, own_of, bases_of, body_of, program_of, deepest}
+use Rattle.vx_flow.specs.Effects.{State, held}
+use Rattle.vx_flow.specs.Meaning.{Body, Program, Frame, known, calls, leaves, hop_of, after_hop, body_hop, next, spot_behind, spot_in, spots_held, enters_with, enters, bases_in, words_in, waits, with_result, at_entry, undefined, entered, own_of, bases_of, body_of, program_of, deepest}
 use Rattle.vx_lower.specs.Holds.{Goes, ends}
-use Rattle.vx_lower.specs.Does.{Does}
 use Rattle.vx_lower.specs.declared.seen.Seen.TheVariants.{GlobalArray, OwnArray, Handed}
 use Rattle.vx_lower.specs.Seen.{Sees, seen_at}
 use Rattle.vx_lower.specs.Lowered.{values_for, arrays_seen, sees_of, first_value, global_of, Lowered, AllLowered}
@@ -30,7 +29,7 @@ use Rattle.vx_lower.proofs.Steps.{Here, setting_at, Entry, HasBlocks, active_at,
 use Rattle.vx_lower.proofs.Ties.{InRange, InForce, Above, Tied}
 use Rattle.vx_lower.proofs.Values.{takes_given, passed_by, AllNumbers, KnownArray, Fitting, CallsMeet, Came_back, zero_fits}
 use Rattle.vx_lower.proofs.ActionLaws.{Reaches}
-use Rattle.vx_lower.proofs.StatementLaws.{Comes_out, Left, stmt_runs}
+use Rattle.vx_lower.proofs.StatementLaws.{Left, stmt_runs}
 use Rattle.vx_lower.proofs.Alike.{alike_self, run_alike}
 use Rattle.vx_lower.proofs.Facts.{body_suits, numbers_are, few_own, few_both, scalar_at, named_in_force, in_below, take_past, take_within, front_item, back_item, map_append, take_all, map_take, rows_append, rows_take, rows_zero, lengths_replicate}
 use Rattle.vx_lower.proofs.Passing.{same_kinds, count_arrays, entry_number, entry_array, behind_globals, handed_bases, bases_are, words_are, spots_are, same_spots, spot_handed, spot_own, Sees_as, a_global, a_handed, an_own, length_seen, sees_as, in_handed}

@@ -1,6 +1,6 @@
 -- The code of expressions, put together from its pieces.
-use Rattle.std.proofs.Common.{◌≡◌, ◌⊎◌, ℕ, zero, suc, ◌+◌, ◌<◌, ◌≤◌, ℤ, pos, Bool, true, false, List, [], ◌∷◌, ◌++◌, length, Option, Some, None, refl, sym, ap, ◌∙◌, subst, inl, inr, arith, append_assoc, append-nil}
-use Rattle.std.specs.Prelude.{slice_get, slice_set}
+use Rattle.std.proofs.Common.{◌≡◌, ◌⊎◌, ℕ, ◌+◌, ◌<◌, ◌≤◌, pos, false, List, [], ◌∷◌, ◌++◌, length, Option, Some, None, refl, sym, ap, ◌∙◌, subst, inl, inr, arith, append_assoc, append-nil}
+use Rattle.std.specs.Prelude.{slice_get}
 use Rattle.std.proofs.lemmas.List.{length-append}
 use Rattle.std.proofs.lemmas.Option.{slice_get_within}
 use Rattle.vx_base.specs.declared.arithmetic.Code.TheVariants.{Mov, ToGeneral, ToBranch}
@@ -17,20 +17,19 @@ use Rattle.vx_ast.specs.View.{tree_of, row_in, argument_before, arguments_in}
 use Rattle.vx_ast.specs.Accepted.{row_length}
 use Rattle.vx_flow.specs.declared.graph.Bank.TheVariants.{General, Branch}
 use Rattle.vx_flow.specs.declared.graph.Operand.{Operand}
-use Rattle.vx_flow.specs.declared.graph.Operand.TheVariants.{Held, Number, Stack}
-use Rattle.vx_flow.specs.declared.graph.Op.{Op}
+use Rattle.vx_flow.specs.declared.graph.Operand.TheVariants.{Held, Number}
 use Rattle.vx_flow.specs.declared.graph.Op.TheVariants.{Compute, Load, More, Input}
 use Rattle.vx_flow.specs.declared.graph.Exit.{Exit}
-use Rattle.vx_flow.specs.declared.graph.Exit.TheVariants.{Goto, Call, Ends}
+use Rattle.vx_flow.specs.declared.graph.Exit.TheVariants.{Goto, Call}
 use Rattle.vx_flow.specs.declared.graph.Block.{Block}
 use Rattle.vx_lower.specs.Seen.{Sees, size_at}
-use Rattle.vx_lower.specs.Holds.{IsBelow, Goes, same, on, Tests, Way, To, Into, Lands, fresh, into, Holds, literal, local, global, element, unary, binary, both, either, choice, apply, read_int, more_input, copied, tested, compared, turned, both_tested, either_tested, no_more, then, hand, comparison_of, Tested, unary_op, then_op, ends, jump}
-use Rattle.vx_lower.specs.Builds.{reserved, closed, filled, turned_to, with_value, Ready, Grows, Finishes, Opens, From, Puts, Branches, Guards}
+use Rattle.vx_lower.specs.Holds.{IsBelow, same, on, To, Into, Lands, fresh, into, Holds, global, element, unary, binary, both, either, choice, apply, read_int, more_input, copied, tested, compared, turned, both_tested, either_tested, no_more, then, hand, comparison_of, unary_op, ends, jump}
+use Rattle.vx_lower.specs.Builds.{reserved, closed, filled, turned_to, with_value, Ready, Grows, Finishes, Opens, Puts, Branches, Guards}
 use Rattle.vx_lower.specs.Emits.{way_of, Aimed, Lasts, IsMoved, Delivers, Checked, Combined, IsWithin, Emits, EmitsTest, EmitsRow, EmitsFront, EmitsBehind, row_before, Stands, Spare, Asked, Truth}
 use Rattle.vx_lower.specs.declared.builder.Builder.{Builder}
 use Rattle.vx_lower.proofs.Rows.{before_assoc, before_none, row_more, arguments_more, within_before, length_before}
 use Rattle.vx_lower.proofs.Ties.{below_on}
-use Rattle.vx_lower.proofs.Places.{get_last, length_more, set_same, set_other, set_length}
+use Rattle.vx_lower.proofs.Places.{get_last, length_more, set_other, set_length}
 use Rattle.vx_lower.proofs.Building.{current_within, grows_self, grows_on, grows_value, grows_reserved, grows_closed, grows_filled, finishes_back, before_closed, before_filled, closed_stands, filled_stands, opens_closed}
 use Rattle.vx_lower.proofs.PieceMaking.{lands_on, value_next, sets_of, guarded_of, branched_of}
 

@@ -1,33 +1,30 @@
 -- The graph follows an expression.
-use Rattle.std.proofs.Common.{◌≡◌, ℕ, zero, suc, ◌+◌, ◌<◌, ◌≤◌, ◌⊎◌, ◌*◌, ◌^◌, ℤ, pos, negsuc, Bool, true, false, cond, not, ◌&&◌, List, [], ◌∷◌, ◌++◌, length, map, slice_index_or, Option, Some, None, refl, sym, ap, ◌∙◌, subst, inl, inr, arith}
-use Rattle.std.specs.Prelude.{nat_lt, nat_eq, slice_get}
+use Rattle.std.proofs.Common.{◌≡◌, ℕ, zero, suc, ◌<◌, ◌≤◌, ◌^◌, ℤ, pos, negsuc, Bool, true, false, cond, not, ◌&&◌, List, [], ◌∷◌, length, map, slice_index_or, Option, Some, None, refl, sym, ap, ◌∙◌, subst, inl, inr, arith}
+use Rattle.std.specs.Prelude.{slice_get}
 use Rattle.vx_base.specs.Arithmetic.{IsNumber, one_if, compare_of, product_of}
-use Rattle.vx_base.specs.declared.arithmetic.Code.TheVariants.{Mov, ToGeneral, ToBranch}
+use Rattle.vx_base.specs.declared.arithmetic.Code.TheVariants.{Mov, ToGeneral}
 use Rattle.vx_base.specs.declared.arithmetic.Compare.TheVariants.{Eq, Ne}
 use Rattle.vx_base.specs.declared.outcome.Trap.TheVariants.{Input as ByInput}
-use Rattle.vx_base.proofs.ArithmeticLaws.{value_fits_law}
 use Rattle.vx_ast.specs.declared.tree.Gives.{Gives as GivesBack}
-use Rattle.vx_ast.specs.declared.tree.UnaryOperator.TheVariants.{Not}
 use Rattle.vx_ast.specs.declared.tree.Takes.{Takes}
 use Rattle.vx_ast.specs.declared.tree.Takes.TheVariants.{Number as TakesNumber, Array as TakesArray}
-use Rattle.vx_ast.specs.Tree.{Shape, One, Row, Tree, Literal, Local, Global, Element, Unary, Binary, Both, Either, Choice, Apply, ReadInt, MoreInput, NoMore, Then, Hand, Function, Program as TreeProgram}
-use Rattle.vx_ast.specs.Meaning.{Store, Part, With, Trapped, Going, and_then, Calls, Argument, NumberArgument, ArrayArgument, numbers_given, arrays_given, Result, value, unless_zero, unary_value, binary_value, combined, next_input, is_left, word_at, array_at}
-use Rattle.vx_ast.specs.Accepted.{Scope, is_in, suits, takes_of_row, same_takes, can_call, gives_int, names_array, is_scalar}
+use Rattle.vx_ast.specs.Tree.{Shape, One, Row, Tree, NoMore, Then, Hand, Function, Program as TreeProgram}
+use Rattle.vx_ast.specs.Meaning.{Store, Part, With, and_then, Calls, NumberArgument, ArrayArgument, numbers_given, arrays_given, Result, value, unless_zero, unary_value, combined, next_input, is_left, word_at}
+use Rattle.vx_ast.specs.Accepted.{Scope, suits, takes_of_row, same_takes, can_call, gives_int, names_array}
 use Rattle.vx_flow.specs.declared.graph.Operand.{Operand}
 use Rattle.vx_flow.specs.declared.graph.Operand.TheVariants.{Held, Number, Stack}
 use Rattle.vx_flow.specs.declared.graph.Op.TheVariants.{Compute, Load, More, Input, Base}
-use Rattle.vx_flow.specs.declared.graph.Exit.TheVariants.{Call, Ends}
+use Rattle.vx_flow.specs.declared.graph.Exit.TheVariants.{Call}
 use Rattle.vx_flow.specs.declared.graph.Block.{Block}
-use Rattle.vx_flow.specs.Effects.{Content, State, held, with_value, effect, IsIn, is_left as has_left, next_input as takes}
-use Rattle.vx_flow.specs.Meaning.{Program, known, with_result}
+use Rattle.vx_flow.specs.Effects.{State, held, with_value, IsIn, is_left as has_left, next_input as takes}
+use Rattle.vx_flow.specs.Meaning.{Program, known}
 use Rattle.vx_lower.specs.declared.seen.Seen.{Seen}
-use Rattle.vx_lower.specs.declared.seen.Seen.TheVariants.{GlobalArray, OwnArray, Handed}
 use Rattle.vx_lower.specs.Seen.{Sees, seen_at, size_at}
-use Rattle.vx_lower.specs.Holds.{Goes, IsBelow, Tests, Way, To, Into, Tested, Lands, Holds, literal, local, global, element, plus, unary, binary, both, either, choice, apply, read_int, more_input, copied, tested, compared, turned, both_tested, either_tested, no_more, then, hand, Bases, of_global, of_own, given, unary_op, then_op, ends}
+use Rattle.vx_lower.specs.Holds.{Goes, Way, To, Tested, Lands, Holds, literal, local, global, element, plus, unary, binary, both, either, choice, apply, read_int, more_input, copied, tested, compared, turned, both_tested, either_tested, no_more, then, hand, Bases, of_global, of_own, given, unary_op, then_op, ends}
 use Rattle.vx_lower.proofs.Base.{and_one, and_two, differs_is, differs_chooses, flag_chooses, four_times}
-use Rattle.vx_lower.proofs.Steps.{Here, setting_at, HasBlocks, Comes, Passes, comes_self, comes_on, passes_on, comes_goes, comes_past, comes_tests, AllWith, all_then, all_with, Gives, bind, bind_with, shift, stops}
+use Rattle.vx_lower.proofs.Steps.{Here, setting_at, HasBlocks, Comes, comes_self, comes_on, passes_on, comes_goes, comes_past, AllWith, all_then, all_with, Gives, bind, bind_with, shift, stops}
 use Rattle.vx_lower.proofs.Ties.{InRange, InForce, Above, above_on, Tied, Keeps, held_kept, below_on, keeps_value, value_there, computes, known_all, tied_value, row_length as words_of_row, loads, held_size}
-use Rattle.vx_lower.proofs.Values.{takes_given, passed_by, nums, AllNumbers, AllGiven, KnownArray, head_of, literal_fits, zero_fits, one_fits, flag_fits, unary_effect, unary_fits, comparison_value, Fitting, Ties, Gained, Landed, Chosen, Good, Came_back, CallsMeet, choose, land, moved, settle, tests_zero, tests_two, combines, checks}
+use Rattle.vx_lower.proofs.Values.{takes_given, passed_by, AllNumbers, AllGiven, KnownArray, head_of, literal_fits, zero_fits, one_fits, flag_fits, unary_effect, unary_fits, comparison_value, Fitting, Landed, Chosen, Good, Came_back, CallsMeet, choose, land, moved, settle, tests_zero, tests_two, combines, checks}
 
 -- the arguments of a row are of its kinds
 pub row_takes : (spot : ℕ → ℕ) (calls : Calls) (row : Tree Row) (σ : Store) → AllWith (λ xs u. takes_given xs ≡ takes_of_row row) (value spot calls row σ)

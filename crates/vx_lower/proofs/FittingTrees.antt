@@ -1,5 +1,5 @@
 -- The code of expressions keeps a graph well shaped.
-use Rattle.std.proofs.Common.{◌≡◌, ℕ, suc, ◌+◌, ◌*◌, ◌<◌, ◌≤◌, pos, false, List, [], ◌∷◌, ◌++◌, length, Option, Some, None, refl, sym, ap, ◌∙◌, subst, inl, inr, arith}
+use Rattle.std.proofs.Common.{◌≡◌, ℕ, suc, ◌+◌, ◌*◌, ◌<◌, ◌≤◌, pos, false, List, [], ◌∷◌, ◌++◌, length, Option, Some, None, refl, sym, ap, ◌∙◌, subst, arith}
 use Rattle.std.proofs.lemmas.Option.{slice_get_within}
 use Rattle.vx_base.specs.declared.arithmetic.Code.TheVariants.{Mov, ToGeneral, ToBranch}
 use Rattle.vx_base.specs.declared.arithmetic.Compare.{Compare}
@@ -17,7 +17,6 @@ use Rattle.vx_flow.specs.declared.graph.Operand.{Operand}
 use Rattle.vx_flow.specs.declared.graph.Operand.TheVariants.{Held, Number}
 use Rattle.vx_flow.specs.declared.graph.Op.TheVariants.{Compute, Load, More, Input}
 use Rattle.vx_flow.specs.declared.graph.Exit.TheVariants.{Goto, Call}
-use Rattle.vx_flow.proofs.Members.{in_front_or_last}
 use Rattle.vx_lower.specs.Seen.{Sees, size_at}
 use Rattle.vx_lower.specs.Holds.{unary_op, jump}
 use Rattle.vx_lower.specs.Builds.{reserved, closed, filled, turned_to, with_value}

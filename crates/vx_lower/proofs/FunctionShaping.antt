@@ -19,8 +19,7 @@ use Rattle.vx_flow.specs.declared.graph.Graph.{Graph}
 use Rattle.vx_flow.specs.Effects.{IsIn}
 use Rattle.vx_flow.specs.Sound.{are_distinct, is_no_global, begins_with}
 use Rattle.vx_flow.proofs.SoundLists.{all_of, differs_of}
-use Rattle.vx_lower.specs.declared.seen.Seen.{Seen}
-use Rattle.vx_lower.specs.declared.seen.Seen.TheVariants.{GlobalArray, OwnArray, Handed}
+use Rattle.vx_lower.specs.declared.seen.Seen.TheVariants.{OwnArray, Handed}
 use Rattle.vx_lower.specs.Seen.{Sees, seen_at, arrays_from}
 use Rattle.vx_lower.specs.FlowOf.{is_general, is_branch}
 use Rattle.vx_lower.specs.Builds.{closed}

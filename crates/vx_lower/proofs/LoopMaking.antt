@@ -1,19 +1,18 @@
 -- The code of loops, and of statements that stand one after the other.
-use Rattle.std.proofs.Common.{◌≡◌, ◌⊎◌, ℕ, zero, suc, ◌+◌, ◌<◌, ◌≤◌, List, [], ◌∷◌, ◌++◌, length, Option, Some, None, refl, sym, ap, ◌∙◌, subst, inl, inr, arith}
-use Rattle.std.specs.Prelude.{slice_get, slice_set}
+use Rattle.std.proofs.Common.{◌≡◌, ℕ, ◌+◌, ◌≤◌, List, [], ◌∷◌, ◌++◌, length, Option, Some, None, refl, sym, ap, ◌∙◌, subst, arith}
+use Rattle.std.specs.Prelude.{slice_get}
 use Rattle.std.proofs.lemmas.Option.{slice_get_within}
 use Rattle.vx_ast.specs.declared.tree.Statement.{Statement}
 use Rattle.vx_ast.specs.View.{code_of, all_in}
-use Rattle.vx_ast.specs.Tree.{One, Tree, Code, Nothing, Seq, While, DoWhile, For}
-use Rattle.vx_flow.specs.declared.graph.Exit.{Exit}
+use Rattle.vx_ast.specs.Tree.{One, Tree, Code, Nothing, While, DoWhile, For}
 use Rattle.vx_flow.specs.declared.graph.Exit.TheVariants.{Goto}
 use Rattle.vx_flow.specs.declared.graph.Block.{Block}
 use Rattle.vx_lower.specs.Seen.{Sees}
-use Rattle.vx_lower.specs.Holds.{Goes, same, on, ends, jump}
-use Rattle.vx_lower.specs.Does.{Asks, asks, Does, nothing, seq, while, do_while, for}
-use Rattle.vx_lower.specs.Builds.{reserved, closed, Ready, Grows, Finishes, Opens, From}
+use Rattle.vx_lower.specs.Holds.{same, on, ends, jump}
+use Rattle.vx_lower.specs.Does.{asks, Does, nothing, seq, while, do_while, for}
+use Rattle.vx_lower.specs.Builds.{reserved, closed, Ready, Grows, Finishes, Opens}
 use Rattle.vx_lower.specs.Emits.{EmitsTest, Spare}
-use Rattle.vx_lower.specs.Makes.{TestWithin, CodeWithin, Begins, way_exit, MakesPlain, Makes, MakesTest}
+use Rattle.vx_lower.specs.Makes.{CodeWithin, way_exit, MakesPlain, Makes, MakesTest}
 use Rattle.vx_lower.specs.declared.builder.Builder.{Builder}
 use Rattle.vx_lower.proofs.Places.{length_more}
 use Rattle.vx_lower.proofs.Building.{grows_self, grows_on, grows_reserved, grows_closed, finishes_back, before_closed, closed_stands, opens_closed}

@@ -6,7 +6,6 @@ use Rattle.std.proofs.lemmas.Bool.{eqb-true}
 use Rattle.std.proofs.lemmas.Option.{slice_get_within, slice_get-map}
 use Rattle.vx_ast.specs.declared.tree.Gives.{Gives}
 use Rattle.vx_ast.specs.declared.tree.Gives.TheVariants.{Int as GivesInt, Nothing as GivesNothing}
-use Rattle.vx_ast.specs.declared.tree.GlobalVariable.{GlobalVariable}
 use Rattle.vx_ast.specs.declared.tree.Item.{Item}
 use Rattle.vx_ast.specs.declared.tree.Item.TheVariants.{Scalar as ClearScalar, ScalarWith, Array}
 use Rattle.vx_ast.specs.declared.tree.First.{First}
@@ -17,9 +16,8 @@ use Rattle.vx_ast.specs.declared.tree.Statement.TheVariants.{Empty as AnEmpty, B
 use Rattle.vx_ast.specs.Tree.{Shape, One, Tree, Literal, Local, Global, Element, Unary, Binary, Both, Either, Choice, Apply, ReadInt, MoreInput, NoMore, Then, Hand, Place, InLocal, InGlobal, InElement, Action, Evaluate, Assign, Compound, Increase, Decrease, Code, Nothing, Seq, Empty, Block, Clear, Declare, ClearArray, Simply, Head, Print, If, IfElse, While, DoWhile, For, Break, Continue, Return, ReturnValue, Function, Program}
 use Rattle.vx_ast.specs.View.{item_of, items_of, first_of, step_of, code_of, all_of, all_in}
 use Rattle.vx_ast.specs.Accepted.{Scope, is_in, at_most, below, row_length, has_numbers, takes_of_row, same_takes, numbers_taken, arrays_taken, global_words, can_call, gives_int, is_scalar, is_array, names_array, suits, suits_place, suits_whole, suits_action, is_format, numbers_of, scope_after, suits_test, suits_code, scalars_of, arrays_of, are_all_from, in_force_at_start, suits_function}
-use Rattle.vx_lower.specs.Seen.{Sees, seen_at}
+use Rattle.vx_lower.specs.Seen.{Sees}
 use Rattle.vx_ast.specs.declared.tree.Takes.{Takes}
-use Rattle.vx_lower.specs.declared.seen.Seen.{Seen}
 use Rattle.vx_lower.specs.declared.seen.Seen.TheVariants.{GlobalArray, OwnArray}
 use Rattle.vx_lower.specs.Lowered.{arrays_seen}
 use Rattle.vx_lower.specs.Named.{Known, TakesArguments, IsThere, IsGlobal, IsOwn, IsNamed, PlaceNamed, ActionNamed, TestNamed, CodeNamed}

@@ -1,5 +1,5 @@
 -- What is passed to a function: its arguments in the values that hold them, and where the arrays stand that it sees.
-use Rattle.std.proofs.Common.{◌≡◌, ℕ, zero, suc, ◌+◌, ◌-◌, ◌*◌, ◌<◌, ◌≤◌, ◌⊎◌, ℤ, pos, Bool, true, false, cond, ◌&&◌, ◌||◌, List, [], ◌∷◌, ◌++◌, length, map, drop, slice_index_or, Option, Some, None, refl, sym, ap, ◌∙◌, subst, inl, inr, arith, append_assoc}
+use Rattle.std.proofs.Common.{◌≡◌, ℕ, zero, suc, ◌+◌, ◌-◌, ◌*◌, ◌<◌, ◌≤◌, ℤ, pos, Bool, true, false, cond, ◌||◌, List, [], ◌∷◌, ◌++◌, length, map, drop, slice_index_or, Option, Some, None, refl, sym, ap, ◌∙◌, inl, inr, arith, append_assoc}
 use Rattle.std.specs.Prelude.{slice_get, nat_lt, nat_eq}
 use Rattle.std.proofs.lemmas.Bool.{cases_lt, ne_eqb, eqb-true}
 use Rattle.std.proofs.lemmas.List.{length-map, length-append}
@@ -11,10 +11,10 @@ use Rattle.vx_ast.specs.Tree.{Function, Program}
 use Rattle.vx_ast.specs.Meaning.{Argument, NumberArgument, ArrayArgument, numbers_given, arrays_given, spot_behind as place_behind, spot_in as place_in}
 use Rattle.vx_ast.specs.Accepted.{is_in, below, global_words, same_take, same_takes, numbers_among, arrays_among, arrays_taken}
 use Rattle.vx_flow.specs.Effects.{Content}
-use Rattle.vx_flow.specs.Meaning.{at_entry, spot_behind, spot_in, spot_held, with_spot, spots_held, base_before, bases_in, words_before, words_in}
+use Rattle.vx_flow.specs.Meaning.{at_entry, spot_behind, spot_in, spot_held, with_spot, spots_held, base_before, bases_in, words_in}
 use Rattle.vx_lower.specs.declared.seen.Seen.{Seen}
 use Rattle.vx_lower.specs.declared.seen.Seen.TheVariants.{GlobalArray, OwnArray, Handed}
-use Rattle.vx_lower.specs.Seen.{Sees, seen_at, arrays_from}
+use Rattle.vx_lower.specs.Seen.{seen_at, arrays_from}
 use Rattle.vx_lower.specs.Lowered.{values_for, handed_from, global_seen, arrays_seen, sees_of}
 use Rattle.vx_lower.proofs.Base.{same_eq, is_below, and_one, and_two}
 use Rattle.vx_lower.proofs.Values.{takes_given, passed_by}

@@ -1,7 +1,6 @@
 -- The pieces of the code of expressions.
-use Rattle.std.proofs.Common.{◌≡◌, ◌⊎◌, ℕ, zero, suc, ◌+◌, ◌<◌, ◌≤◌, ℤ, pos, Bool, true, false, List, [], ◌∷◌, ◌++◌, length, slice_index_or, Option, Some, None, refl, sym, ap, ◌∙◌, subst, inl, inr, arith}
-use Rattle.std.specs.Prelude.{slice_get, slice_set}
-use Rattle.std.proofs.lemmas.Option.{slice_get_within}
+use Rattle.std.proofs.Common.{◌≡◌, ℕ, ◌+◌, ◌<◌, ◌≤◌, pos, true, false, List, [], length, Option, Some, None, refl, sym, ap, ◌∙◌, subst, arith}
+use Rattle.std.specs.Prelude.{slice_get}
 use Rattle.vx_base.specs.declared.arithmetic.Code.{Code}
 use Rattle.vx_base.specs.declared.arithmetic.Code.TheVariants.{Add, Mov, ToBranch, Mpylu, Mpyhs}
 use Rattle.vx_base.specs.declared.arithmetic.Compare.TheVariants.{Ne, Ltu}
@@ -19,12 +18,11 @@ use Rattle.vx_flow.specs.declared.graph.Op.{Op}
 use Rattle.vx_flow.specs.declared.graph.Op.TheVariants.{Compute, Base}
 use Rattle.vx_flow.specs.declared.graph.Exit.TheVariants.{Ends}
 use Rattle.vx_flow.specs.declared.graph.Block.{Block}
-use Rattle.vx_lower.specs.declared.seen.Seen.{Seen}
 use Rattle.vx_lower.specs.declared.seen.Seen.TheVariants.{GlobalArray, OwnArray, Handed}
 use Rattle.vx_lower.specs.Seen.{Sees, seen_at, size_at, place_op}
-use Rattle.vx_lower.specs.Holds.{IsBelow, Goes, same, Tests, Checks, Combines, single, product, quotient, operation_of, Way, To, Into, Tested, Lands, fresh, into, Bases, of_global, of_own, given, then_op, ends}
+use Rattle.vx_lower.specs.Holds.{Goes, Tests, single, product, quotient, operation_of, Way, Into, Lands, fresh, into, Bases, of_global, of_own, given, then_op, ends}
 use Rattle.vx_lower.specs.Builds.{Ready, Grows, Finishes, Opens, From, Puts, Branches, Guards, with_value}
-use Rattle.vx_lower.specs.Emits.{way_of, Aimed, Lasts, IsMoved, Delivers, Checked, Combined, MakesBase, Stands, Spare}
+use Rattle.vx_lower.specs.Emits.{way_of, Aimed, Lasts, Delivers, Checked, Combined, MakesBase, Stands, Spare}
 use Rattle.vx_lower.specs.declared.builder.Builder.{Builder}
 use Rattle.vx_lower.proofs.Ties.{below_on}
 use Rattle.vx_lower.proofs.Places.{length_more}

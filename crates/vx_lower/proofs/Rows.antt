@@ -1,15 +1,13 @@
 -- Rows of arguments, one behind the other.
-use Rattle.std.proofs.Common.{◌≡◌, ℕ, suc, ◌+◌, Bool, true, false, List, [], ◌∷◌, ◌++◌, refl, sym, ap, ◌∙◌, subst, inl, inr, arith}
+use Rattle.std.proofs.Common.{◌≡◌, ℕ, suc, ◌+◌, true, false, List, [], ◌∷◌, ◌++◌, refl, sym, ap, subst, inl, inr, arith}
 use Rattle.vx_ast.specs.declared.tree.Expression.{Expression}
 use Rattle.vx_ast.specs.declared.tree.Argument.{Argument}
 use Rattle.vx_ast.specs.declared.tree.Argument.TheVariants.{Number as ANumber, Array as AnArray}
 use Rattle.vx_ast.specs.declared.tree.Takes.TheVariants.{Number as TakesNumber, Array as TakesArray}
-use Rattle.vx_ast.specs.declared.tree.Takes.{Takes}
 use Rattle.vx_ast.specs.Tree.{Row, Tree, NoMore, Then, Hand}
 use Rattle.vx_ast.specs.View.{tree_of, row_in, argument_before, arguments_in}
 use Rattle.vx_ast.specs.Accepted.{row_length, nodes_of, takes_of_row, has_numbers}
 use Rattle.vx_flow.specs.declared.graph.Operand.{Operand}
-use Rattle.vx_flow.specs.Effects.{IsIn}
 use Rattle.vx_lower.specs.Seen.{Sees}
 use Rattle.vx_lower.specs.Emits.{IsWithin, row_before}
 use Rattle.vx_lower.specs.Named.{Known, IsNamed}

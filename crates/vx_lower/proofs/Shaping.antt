@@ -1,5 +1,5 @@
 -- From a graph that is being made to the shape of the finished one.
-use Rattle.std.proofs.Common.{◌≡◌, ◌⊎◌, ℕ, zero, suc, ◌+◌, ◌<◌, ◌≤◌, ℤ, pos, Bool, true, false, List, [], ◌∷◌, length, map, Option, Some, None, refl, sym, ap, ◌∙◌, subst, inl, inr, arith}
+use Rattle.std.proofs.Common.{◌≡◌, ◌⊎◌, ℕ, zero, suc, ◌+◌, ◌<◌, ◌≤◌, ℤ, pos, Bool, true, false, List, [], ◌∷◌, length, Option, Some, None, refl, sym, ap, ◌∙◌, subst, inl, inr, arith}
 use Rattle.std.specs.Prelude.{slice_get, option_map}
 use Rattle.std.proofs.lemmas.Bool.{cases_lt}
 use Rattle.std.proofs.lemmas.Option.{slice_get-map, get_or_from_slice_get}
@@ -15,7 +15,6 @@ use Rattle.vx_flow.specs.declared.graph.Exit.{Exit}
 use Rattle.vx_flow.specs.declared.graph.Exit.TheVariants.{Goto, Split, Call, Return, Ends}
 use Rattle.vx_flow.specs.declared.graph.Block.{Block}
 use Rattle.vx_flow.specs.declared.graph.Graph.{Graph}
-use Rattle.vx_flow.specs.declared.graph.Flow.{Flow}
 use Rattle.vx_flow.specs.Effects.{IsIn, value_in, reads, writes}
 use Rattle.vx_flow.specs.Sound.{HasOperation, HasExit, operands_of, operands_of_exit, tests_of, tests_of_exit, bank_written, results_of_exit, targets_of, arrays_of, base_of, base_at, IsAccess, loads, stores, is_local, is_base, is_base_operand, IsOperandOf, MakesPlace, by_itself, by_base, IsPlace, in_own, in_handed, IsBase, given, made, IsMadeFrom, ReadAsPlace, Sound}
 use Rattle.vx_flow.proofs.Members.{in_either}

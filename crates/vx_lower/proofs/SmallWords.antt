@@ -1,5 +1,5 @@
 -- The arrays that a function of an accepted program sees have fewer than 2^31 words each.
-use Rattle.std.proofs.Common.{◌≡◌, ◌<◌, ◌≤◌, ◌^◌, ℕ, zero, suc, true, Some, List, [], ◌∷◌, ◌++◌, length, map, take, refl, sym, ap, subst, ◌∙◌, arith, get_or, lt-ltb, append_assoc}
+use Rattle.std.proofs.Common.{◌≡◌, ◌<◌, ◌≤◌, ◌^◌, ℕ, zero, suc, true, Some, List, [], ◌∷◌, ◌++◌, length, map, refl, sym, ap, subst, arith, get_or, lt-ltb, append_assoc}
 use Rattle.std.specs.Prelude.{slice_get, slice_index_or}
 use Rattle.std.specs.Cmp.Derive.{both_true}
 use Rattle.vx_ast.specs.Tree.{Function, Program}

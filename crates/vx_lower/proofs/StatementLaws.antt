@@ -1,31 +1,30 @@
 -- The graph follows a statement.
-use Rattle.std.proofs.Common.{◌≡◌, ℕ, zero, suc, ◌+◌, ◌<◌, ◌≤◌, ◌⊎◌, ◌*◌, ◌^◌, ℤ, pos, negsuc, Bool, true, false, cond, ◌&&◌, ◌||◌, List, [], ◌∷◌, ◌++◌, length, map, slice_index_or, Option, Some, None, refl, sym, ap, ◌∙◌, subst, inl, inr, arith}
-use Rattle.std.specs.Prelude.{nat_lt, nat_eq, slice_get}
+use Rattle.std.proofs.Common.{◌≡◌, ℕ, zero, suc, ◌<◌, ◌≤◌, ℤ, pos, negsuc, Bool, true, false, ◌&&◌, ◌||◌, List, [], ◌∷◌, length, map, slice_index_or, Option, Some, refl, sym, ap, ◌∙◌, subst, arith}
+use Rattle.std.specs.Prelude.{nat_eq, slice_get}
 use Rattle.std.proofs.lemmas.Bool.{eqb-true}
 use Rattle.vx_base.specs.Arithmetic.{IsNumber}
-use Rattle.vx_base.specs.Outcome.{Goes as Unfinished}
 use Rattle.vx_base.specs.declared.arithmetic.Code.TheVariants.{Mov}
 use Rattle.vx_ast.specs.declared.tree.Gives.{Gives as GivesBack}
 use Rattle.vx_ast.specs.declared.tree.Gives.TheVariants.{Int as GivesInt, Nothing as GivesNothing}
 use Rattle.vx_ast.specs.declared.tree.Takes.{Takes}
 use Rattle.vx_ast.specs.Tree.{NoMore, Then, Hand, One, Row, Tree, Code, Nothing, Seq, Empty, Block as Braces, Clear, Declare, ClearArray, Simply, Head, Print, If, IfElse, While, DoWhile, For, Break, Continue, Return, ReturnValue, Program as TreeProgram}
-use Rattle.vx_ast.specs.Meaning.{Store, Part, With, Trapped, Going, and_then, Leaves, Falls, Breaks, Continues, Returns, go_on, after_body, after_turn, tests, turns, turns_first, test_of, with_scalar, Calls, Argument, NumberArgument, ArrayArgument, numbers_given, value, acts, does, unless_zero, pieces_of, printed, prints, cleared}
-use Rattle.vx_ast.specs.Accepted.{Scope, is_in, suits, suits_action, suits_test, suits_code, scope_after, is_format, numbers_of, row_length, has_numbers, takes_of_row}
+use Rattle.vx_ast.specs.Meaning.{Store, Part, With, Trapped, Going, Leaves, Falls, Breaks, Continues, Returns, go_on, after_body, after_turn, tests, turns, turns_first, test_of, Calls, Argument, NumberArgument, ArrayArgument, numbers_given, value, acts, does, unless_zero}
+use Rattle.vx_ast.specs.Accepted.{Scope, is_in, suits, suits_test, suits_code, scope_after, is_format, numbers_of, row_length, has_numbers, takes_of_row}
 use Rattle.vx_flow.specs.declared.graph.Operand.{Operand}
-use Rattle.vx_flow.specs.declared.graph.Operand.TheVariants.{Held, Number}
+use Rattle.vx_flow.specs.declared.graph.Operand.TheVariants.{Number}
 use Rattle.vx_flow.specs.declared.graph.Op.TheVariants.{Compute}
 use Rattle.vx_flow.specs.declared.graph.Exit.TheVariants.{Return as Leave}
 use Rattle.vx_flow.specs.declared.graph.Block.{Block}
 use Rattle.vx_flow.specs.Effects.{State, held, with_value}
 use Rattle.vx_flow.specs.Meaning.{Program}
-use Rattle.vx_lower.specs.Holds.{Goes, same, To, Into, Tested, Holds, then_op, ends, jump}
+use Rattle.vx_lower.specs.Holds.{Goes, same, Tested, Holds, ends, jump}
 use Rattle.vx_lower.specs.Does.{Asks, always, asks, Does, nothing, seq, empty, braces, clear, declare, clear_array, simply, head, print, choose, choose_else, while, do_while, for, break, continue, return, return_value}
 use Rattle.vx_lower.proofs.Base.{and_one, and_two}
-use Rattle.vx_lower.proofs.Steps.{Here, setting_at, Entry, HasBlocks, Comes, Later, Passes, rest_run, comes_self, comes_on, later_on, on_later, is_later, passes_on, comes_goes, comes_past, later_jump, passes_jump, Gives, bind, bind_with, shift, fewer, one_more, goes_on}
+use Rattle.vx_lower.proofs.Steps.{Here, setting_at, HasBlocks, Comes, Later, Passes, comes_self, comes_on, on_later, is_later, passes_on, comes_goes, comes_past, later_jump, passes_jump, Gives, bind, bind_with, shift, fewer, one_more, goes_on}
 use Rattle.vx_lower.specs.Seen.{Sees, size_at}
 use Rattle.vx_lower.proofs.Ties.{Above, Tied, held_kept, tied_scalar, row_length as words_of_row, held_size, size_below}
-use Rattle.vx_lower.proofs.Values.{takes_given, passed_by, head_of, zero_fits, Fitting, Gained, Landed, Chosen, Good, CallsMeet, choose as choose_way}
-use Rattle.vx_lower.proofs.Zeros.{Wiped, zeroes_run, tied_zeroed}
+use Rattle.vx_lower.proofs.Values.{takes_given, passed_by, head_of, zero_fits, Fitting, Gained, Landed, Chosen, CallsMeet, choose as choose_way}
+use Rattle.vx_lower.proofs.Zeros.{zeroes_run, tied_zeroed}
 use Rattle.vx_lower.proofs.Exprs.{row_takes}
 use Rattle.vx_lower.proofs.ActionLaws.{BothScopes, in_more, one_more_scalar, tied_narrow, Reaches, Stays, value_runs, sets, acts_run, shows_run}
 

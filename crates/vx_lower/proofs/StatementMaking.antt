@@ -1,15 +1,12 @@
 -- The code of statements.
-use Rattle.std.proofs.Common.{◌≡◌, ◌⊎◌, ℕ, zero, suc, ◌+◌, ◌<◌, ◌≤◌, ℤ, pos, List, [], ◌∷◌, ◌++◌, length, slice_index_or, Option, Some, None, refl, sym, ap, ◌∙◌, subst, inl, inr, arith}
-use Rattle.std.specs.Prelude.{slice_get, slice_set}
-use Rattle.std.proofs.lemmas.Option.{slice_get_within}
+use Rattle.std.proofs.Common.{◌≡◌, ℕ, ◌≤◌, pos, List, [], ◌∷◌, ◌++◌, length, Option, Some, None, refl, sym, ap, ◌∙◌, subst, arith}
+use Rattle.std.specs.Prelude.{slice_get}
 use Rattle.vx_base.specs.declared.arithmetic.Code.TheVariants.{Add, Mov, ToBranch}
 use Rattle.vx_base.specs.declared.arithmetic.Compare.TheVariants.{Lt}
 use Rattle.vx_ast.specs.declared.tree.Item.{Item}
-use Rattle.vx_ast.specs.declared.tree.Statement.{Statement}
-use Rattle.vx_ast.specs.View.{code_of, all_in, item_of, items_of}
+use Rattle.vx_ast.specs.View.{item_of, items_of}
 use Rattle.vx_ast.specs.Meaning.{pieces_of}
-use Rattle.vx_ast.specs.Accepted.{row_length}
-use Rattle.vx_ast.specs.Tree.{One, Row, Tree, Action, Code, Nothing, Seq, Empty, Block as Braces, Clear, Declare, ClearArray, Simply, Head, Print, If, IfElse, While, DoWhile, For, Break, Continue, Return, ReturnValue, NoMore, Then}
+use Rattle.vx_ast.specs.Tree.{One, Row, Tree, Action, Code, Nothing, Empty, Block as Braces, Clear, Declare, ClearArray, Simply, Head, Print, If, IfElse, Break, Continue, Return, ReturnValue}
 use Rattle.vx_flow.specs.declared.graph.Bank.TheVariants.{General, Branch}
 use Rattle.vx_flow.specs.declared.graph.Operand.{Operand}
 use Rattle.vx_flow.specs.declared.graph.Operand.TheVariants.{Held, Number}
@@ -19,15 +16,14 @@ use Rattle.vx_flow.specs.declared.graph.Exit.TheVariants.{Goto, Return as Return
 use Rattle.vx_flow.specs.declared.graph.Block.{Block}
 use Rattle.vx_lower.specs.Seen.{Sees, size_at}
 use Rattle.vx_lower.specs.Holds.{Goes, same, on, Way, To, Into, Tested, Lands, fresh, into, then_op, ends, jump}
-use Rattle.vx_lower.specs.Does.{Acts, Zeroes, Asks, asks, always, Shows, Does, nothing, seq, empty, braces, clear, declare, clear_array, simply, head, print, choose, choose_else, while, do_while, for, break, continue, return, return_value}
-use Rattle.vx_lower.specs.Builds.{reserved, closed, with_value, Ready, Grows, Stands, Finishes, Opens, From, Puts, Branches}
-use Rattle.vx_lower.specs.Emits.{way_of, Lasts, IsWithin, Emits, EmitsTest, EmitsRow, Spare}
-use Rattle.vx_lower.specs.Makes.{ActionWithin, TestWithin, CodeWithin, Acted, way_exit, ClearsWord, Begins, MakesPlain, Makes, MakesTest, Showed, numbers_in}
+use Rattle.vx_lower.specs.Does.{asks, always, Does, nothing, seq, empty, braces, clear, declare, clear_array, simply, head, print, choose, choose_else, break, continue, return, return_value}
+use Rattle.vx_lower.specs.Builds.{reserved, closed, with_value, Ready, Grows, Stands, Finishes, Opens, Puts, Branches}
+use Rattle.vx_lower.specs.Emits.{Lasts, Emits, EmitsTest, EmitsRow, Spare}
+use Rattle.vx_lower.specs.Makes.{CodeWithin, Acted, way_exit, ClearsWord, MakesPlain, Makes, MakesTest, Showed, numbers_in}
 use Rattle.vx_lower.specs.declared.builder.Builder.{Builder}
-use Rattle.vx_lower.proofs.Places.{length_more}
-use Rattle.vx_lower.proofs.Building.{current_within, grows_self, grows_on, grows_reserved, grows_closed, finishes_back, before_closed, closed_stands, opens_closed}
+use Rattle.vx_lower.proofs.Building.{grows_self, grows_on, grows_reserved, grows_closed, finishes_back, before_closed, closed_stands, opens_closed}
 use Rattle.vx_lower.proofs.PieceMaking.{sets_of, branched_of}
-use Rattle.vx_lower.proofs.Emitting.{within_on, spare_on, spare_closed, spare_reserved, ready_closed, Joined, joined}
+use Rattle.vx_lower.proofs.Emitting.{within_on, spare_on, spare_reserved, ready_closed, joined}
 use Rattle.vx_lower.proofs.PrintMaking.{begins_self, begins_on}
 
 pub plain_as : (words : Sees) (a b : Builder) (x y : Code) → x ≡ y → (Ready a → MakesPlain words x a b) → Ready a → MakesPlain words y a b

@@ -1,5 +1,5 @@
 -- The tree of a block.
-use Rattle.std.proofs.Common.{◌≡◌, ℕ, List, [], ◌∷◌, refl, ap, sym, ◌∙◌, rules, Vec, Global}
+use Rattle.std.proofs.Common.{◌≡◌, refl, ap, rules, Vec, Global}
 use Rattle.vx_ast.specs.declared.tree.Statement.{Statement, Row_of-Statement, end_of-Statement, more_of-Statement, items-the_row-Statement, the_lemmas, Block}
 use Rattle.vx_ast.specs.Tree.{Block as Braces, Seq}
 use Rattle.vx_ast.specs.View.{code_of, all_of, all_in}

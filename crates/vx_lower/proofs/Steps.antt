@@ -1,16 +1,15 @@
 -- From the rest of one block to the rest of another.
-use Rattle.std.proofs.Common.{◌≡◌, ℕ, zero, suc, ◌+◌, ◌<◌, ◌≤◌, ℤ, pos, negsuc, Bool, true, false, cond, List, [], ◌∷◌, Option, Some, None, refl, sym, ap, ◌∙◌, subst, arith}
+use Rattle.std.proofs.Common.{◌≡◌, ℕ, suc, ◌<◌, ◌≤◌, Bool, true, false, cond, List, Option, Some, refl, ap, ◌∙◌, subst, arith}
 use Rattle.std.specs.Prelude.{slice_get}
 use Rattle.vx_base.specs.Arithmetic.{one_if}
-use Rattle.vx_base.specs.Outcome.{Outcome, Traps, Goes as Unfinished, Step, On, Over, step_then, run}
+use Rattle.vx_base.specs.Outcome.{Outcome, Traps, Goes as Unfinished, step_then, run}
 use Rattle.vx_base.specs.declared.outcome.Trap.{Trap}
-use Rattle.vx_ast.specs.Meaning.{Store, Part, With, Trapped, Going, and_then as then_do, unless_zero}
+use Rattle.vx_ast.specs.Meaning.{Store, Part, With, Trapped, Going, and_then as then_do}
 use Rattle.vx_flow.specs.declared.graph.Op.{Op}
-use Rattle.vx_flow.specs.declared.graph.Exit.TheVariants.{Goto, Split, Ends}
+use Rattle.vx_flow.specs.declared.graph.Exit.TheVariants.{Split, Ends}
 use Rattle.vx_flow.specs.declared.graph.Block.{Block}
-use Rattle.vx_flow.specs.declared.graph.Flow.{Flow}
 use Rattle.vx_flow.specs.Effects.{State, Setting, effect}
-use Rattle.vx_flow.specs.Meaning.{Hop, Arrives, Program, Frame, Active, block_hop, and_then, by_test, after_hop, hop, next, setting_with, program_of}
+use Rattle.vx_flow.specs.Meaning.{Arrives, Program, Frame, Active, block_hop, and_then, by_test, after_hop, hop, next, setting_with}
 use Rattle.vx_lower.specs.Holds.{Goes, same, on, then_op, ends, jump, Tests}
 
 -- what stays in a body: the function, the spots of the arrays that were passed to it, where its own arrays begin, and those

@@ -1,5 +1,5 @@
 -- What ties the source's store to the graph's state.
-use Rattle.std.proofs.Common.{◌≡◌, ℕ, zero, suc, ◌+◌, ◌<◌, ◌≤◌, ◌⊎◌, ◌*◌, ◌^◌, ℤ, pos, negsuc, Bool, true, false, cond, ◌||◌, List, [], ◌∷◌, ◌++◌, length, map, slice_index_or, slice_set, Option, Some, None, refl, sym, ap, ◌∙◌, subst, inl, inr, arith}
+use Rattle.std.proofs.Common.{◌≡◌, ℕ, zero, suc, ◌<◌, ◌≤◌, ◌⊎◌, ◌^◌, ℤ, pos, Bool, true, false, cond, ◌||◌, List, [], ◌∷◌, length, map, slice_index_or, slice_set, Some, None, refl, sym, ap, ◌∙◌, inl, inr, arith}
 use Rattle.std.specs.Prelude.{nat_eq}
 use Rattle.std.proofs.lemmas.Bool.Decides.{eqb_tells}
 use Rattle.std.proofs.lemmas.List.{length-map}
@@ -10,8 +10,8 @@ use Rattle.vx_ast.specs.Meaning.{Store, with_scalar, with_word, array_at, word_a
 use Rattle.vx_ast.specs.Accepted.{Scope, is_in}
 use Rattle.vx_flow.specs.declared.graph.Operand.{Operand}
 use Rattle.vx_flow.specs.declared.graph.Operand.TheVariants.{Held, Number, Stack}
-use Rattle.vx_flow.specs.declared.graph.Op.TheVariants.{Compute, Place, PlaceIn, Load, Store as Keep}
-use Rattle.vx_flow.specs.Effects.{Content, State, Setting, held, with_value, with_cell, row_of, both, computed, is_unary, effect, loaded, stored, cell_in, place_of, place_by as place_from}
+use Rattle.vx_flow.specs.declared.graph.Op.TheVariants.{Compute, Load, Store as Keep}
+use Rattle.vx_flow.specs.Effects.{Content, State, Setting, held, with_value, with_cell, row_of, both, is_unary, effect, loaded, stored, cell_in, place_of, place_by as place_from}
 use Rattle.vx_flow.specs.Meaning.{known, with_front}
 use Rattle.vx_lower.specs.FlowOf.{AreNumbers}
 use Rattle.vx_lower.specs.Holds.{IsBelow}

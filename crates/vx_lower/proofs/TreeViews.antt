@@ -1,9 +1,8 @@
 -- The tree of a call.
-use Rattle.std.proofs.Common.{◌≡◌, ℕ, false, List, [], ◌∷◌, refl, ap, sym, ◌∙◌, rules, Vec, Global}
-use Rattle.vx_ast.specs.declared.tree.Expression.{Expression, Row_of-Argument, end_of-Argument, more_of-Argument, items-the_row-Argument, the_lemmas, Call}
+use Rattle.std.proofs.Common.{◌≡◌, ℕ, refl, ap, rules, Vec, Global}
+use Rattle.vx_ast.specs.declared.tree.Expression.{Row_of-Argument, end_of-Argument, more_of-Argument, items-the_row-Argument, the_lemmas, Call}
 use Rattle.vx_ast.specs.declared.tree.Argument.{Argument}
 use Rattle.vx_ast.specs.Tree.{Apply}
-use Rattle.vx_lower.specs.Does.{is_call}
 use Rattle.vx_ast.specs.View.{tree_of, row_of, argument_before, arguments_in}
 
 pub rows_are : (n : _) (k : Row_of-Argument n) → row_of k ≡ arguments_in (items-the_row-Argument n k)

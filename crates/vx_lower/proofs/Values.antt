@@ -1,14 +1,14 @@
 -- The pieces of the simulation of expressions: what a state has after them, and how one operation, a test, a check and
 -- an operator lead there.
-use Rattle.std.proofs.Common.{◌≡◌, ℕ, zero, suc, ◌+◌, ◌<◌, ◌≤◌, ◌⊎◌, ◌*◌, ◌^◌, ℤ, pos, negsuc, Bool, true, false, cond, ◌&&◌, List, [], ◌∷◌, ◌++◌, length, map, slice_index_or, Option, Some, None, refl, sym, ap, ◌∙◌, subst, inl, inr, arith, ltb-true}
+use Rattle.std.proofs.Common.{◌≡◌, ℕ, zero, suc, ◌<◌, ◌≤◌, ◌⊎◌, ◌^◌, ℤ, pos, negsuc, Bool, true, false, cond, List, [], ◌∷◌, length, map, slice_index_or, Option, Some, None, refl, sym, ap, ◌∙◌, subst, arith, ltb-true}
 use Rattle.std.specs.Prelude.{nat_lt, slice_get}
 use Rattle.std.specs.Int.{w32}
 use Rattle.std.proofs.lemmas.Int.{fits_signed_from_abs}
 use Rattle.vx_base.specs.Arithmetic.{IsNumber, one_if, value_of, compare_of, product_of, mpylu_of, mpyhs_of, sum_of}
 use Rattle.vx_base.specs.declared.arithmetic.Code.{Code}
-use Rattle.vx_base.specs.declared.arithmetic.Code.TheVariants.{Add, Sub, And, Or, Xor, Shl, Shr, Mov, ToGeneral, ToBranch, Mpylu, Mpyhs, Div, Rem}
+use Rattle.vx_base.specs.declared.arithmetic.Code.TheVariants.{Add, Sub, Xor, Mov, ToGeneral, ToBranch, Mpylu, Mpyhs}
 use Rattle.vx_base.specs.declared.arithmetic.Compare.{Compare}
-use Rattle.vx_base.specs.declared.arithmetic.Compare.TheVariants.{Eq, Ne, Lt, Le, Gt, Ge, Ltu}
+use Rattle.vx_base.specs.declared.arithmetic.Compare.TheVariants.{Eq, Ne, Ltu}
 use Rattle.vx_base.specs.declared.outcome.Trap.TheVariants.{Divide as ByDivide, Index as ByIndex}
 use Rattle.vx_base.proofs.ArithmeticLaws.{value_fits_law, product_by_halves_law}
 use Rattle.vx_ast.specs.declared.tree.UnaryOperator.{UnaryOperator}
@@ -17,22 +17,22 @@ use Rattle.vx_ast.specs.declared.tree.BinaryOperator.{BinaryOperator}
 use Rattle.vx_ast.specs.declared.tree.BinaryOperator.TheVariants.{Multiply, Divide, Remainder, Add as Adds, Subtract, ShiftLeft, ShiftRight, Less, LessEqual, Greater, GreaterEqual, Equal, NotEqual, BitAnd, BitXor, BitOr}
 use Rattle.vx_ast.specs.declared.tree.Takes.{Takes}
 use Rattle.vx_ast.specs.declared.tree.Takes.TheVariants.{Number as TakesNumber, Array as TakesArray}
-use Rattle.vx_ast.specs.Tree.{Shape, One, Row, Tree, Function, Program as TreeProgram}
-use Rattle.vx_ast.specs.Meaning.{Store, Part, With, Trapped, Going, Calls, Argument, NumberArgument, ArrayArgument, numbers_given, arrays_given, Result, unless_zero, unary_value, binary_value, divides, combined, array_at, at_index, index_in}
+use Rattle.vx_ast.specs.Tree.{Shape, One, Row, Program as TreeProgram}
+use Rattle.vx_ast.specs.Meaning.{Store, Part, With, Trapped, Calls, Argument, NumberArgument, ArrayArgument, numbers_given, arrays_given, Result, unless_zero, unary_value, binary_value, combined, array_at, at_index, index_in}
 use Rattle.vx_ast.specs.Accepted.{Scope, is_word, is_scalar, names_array, can_call}
 use Rattle.vx_flow.specs.declared.graph.Operand.{Operand}
-use Rattle.vx_flow.specs.declared.graph.Operand.TheVariants.{Held, Number, Stack}
+use Rattle.vx_flow.specs.declared.graph.Operand.TheVariants.{Held, Number}
 use Rattle.vx_flow.specs.declared.graph.Op.{Op}
 use Rattle.vx_flow.specs.declared.graph.Op.TheVariants.{Compute}
-use Rattle.vx_flow.specs.declared.graph.Exit.TheVariants.{Call, Ends}
+use Rattle.vx_flow.specs.declared.graph.Exit.TheVariants.{Call}
 use Rattle.vx_flow.specs.declared.graph.Block.{Block}
 use Rattle.vx_flow.specs.Effects.{Content, State, Setting, held, with_value, effect}
-use Rattle.vx_flow.specs.Meaning.{Program, Active, known, with_result}
+use Rattle.vx_flow.specs.Meaning.{Program, known, with_result}
 use Rattle.vx_lower.specs.Seen.{Sees, size_at, place_op}
 use Rattle.vx_lower.specs.Holds.{Goes, IsBelow, Tests, Checks, Combines, single, product, quotient, unary_op, operation_of, comparison_of, Way, To, Into, Tested, Lands, fresh, into, then_op, ends}
-use Rattle.vx_lower.proofs.Base.{differs_chooses, flag_chooses, is_index, index_test, four_times}
-use Rattle.vx_lower.proofs.Steps.{Here, setting_at, HasBlocks, Comes, Passes, Came_to, comes_self, comes_on, passes_on, comes_goes, comes_past, comes_tests, Gives, bind, shift, stops}
-use Rattle.vx_lower.proofs.Ties.{InRange, InForce, Above, Tied, Keeps, held_kept, below_on, keeps_value, value_there, computes, tied_value, source_length, Sized, held_size, size_below, places}
+use Rattle.vx_lower.proofs.Base.{differs_chooses, flag_chooses, is_index, index_test}
+use Rattle.vx_lower.proofs.Steps.{Here, setting_at, HasBlocks, Comes, Passes, comes_on, passes_on, comes_goes, comes_past, comes_tests, Gives, stops}
+use Rattle.vx_lower.proofs.Ties.{InForce, Above, Tied, Keeps, held_kept, below_on, keeps_value, value_there, computes, tied_value, source_length, Sized, held_size, size_below, places}
 
 -- of which kind each argument is
 abbrev pub takes_given : List Argument → List Takes

@@ -1,6 +1,6 @@
 -- The graphs of a program do what the program does.
-use Rattle.std.proofs.Common.{◌≡◌, ℕ, zero, suc, ◌+◌, ◌-◌, ◌<◌, ◌≤◌, ◌^◌, ℤ, pos, negsuc, Bool, true, false, ◌&&◌, List, [], ◌∷◌, ◌++◌, length, map, replicate, slice_index_or, slice_set, Option, Some, None, refl, sym, ap, ◌∙◌, subst, arith, ltb-true}
-use Rattle.std.specs.Prelude.{slice_get, nat_lt, nat_eq}
+use Rattle.std.proofs.Common.{◌≡◌, ℕ, zero, suc, ◌+◌, ◌<◌, ◌≤◌, ◌^◌, ℤ, pos, negsuc, true, false, List, [], ◌∷◌, ◌++◌, length, map, replicate, slice_index_or, slice_set, Option, Some, None, refl, sym, ap, ◌∙◌, subst, arith, ltb-true}
+use Rattle.std.specs.Prelude.{slice_get, nat_eq}
 use Rattle.std.specs.List.{list_all}
 use Rattle.std.specs.Int.{w32}
 use Rattle.std.proofs.lemmas.Int.{fits_signed_from_abs}
@@ -8,29 +8,25 @@ use Rattle.std.proofs.lemmas.Bool.{eqb-true}
 use Rattle.std.proofs.lemmas.List.{length-map, nil_from_length}
 use Rattle.std.proofs.Math.ListN.{get_or-map}
 use Rattle.vx_base.specs.Arithmetic.{IsNumber}
-use Rattle.vx_base.specs.Outcome.{Outcome, Ends, Traps, Goes as Unfinished, FollowsAt, Follows, Same, NeverFails, Step, step_then, run}
+use Rattle.vx_base.specs.Outcome.{Ends, FollowsAt, Follows, step_then, run}
 use Rattle.vx_base.proofs.Following.{follows_same}
 use Rattle.vx_ast.specs.declared.tree.GlobalVariable.{GlobalVariable}
 use Rattle.vx_ast.specs.declared.tree.GlobalVariable.TheVariants.{Scalar as ScalarGlobal, Array as ArrayGlobal}
 use Rattle.vx_ast.specs.Tree.{Function, Program as TreeProgram}
-use Rattle.vx_ast.specs.Meaning.{Store, Part, With, Trapped, Going, Leaves, Falls, Breaks, Continues, Returns, does, spot_in as place_in, result_of, entered as entered_source, activate, active, words_at_start as source_words, at_start as source_start, outcome_of, source, deepest as source_deepest}
-use Rattle.vx_ast.specs.Accepted.{is_accepted, is_main, gives_int, suits_global, global_words, in_force_at_start}
-use Rattle.vx_flow.specs.declared.graph.Exit.TheVariants.{Return}
+use Rattle.vx_ast.specs.Meaning.{Store, Part, With, Trapped, Going, Leaves, Falls, Breaks, Continues, Returns, does, spot_in as place_in, result_of, entered as entered_source, activate, active, words_at_start as source_words, at_start as source_start, outcome_of, source}
+use Rattle.vx_ast.specs.Accepted.{is_accepted, is_main, gives_int, suits_global, global_words}
 use Rattle.vx_flow.specs.declared.graph.Block.{Block}
 use Rattle.vx_flow.specs.declared.graph.Graph.{Graph}
-use Rattle.vx_flow.specs.declared.graph.Global.{Global}
 use Rattle.vx_flow.specs.declared.graph.Flow.{Flow}
-use Rattle.vx_flow.specs.Effects.{Content, State, held}
-use Rattle.vx_flow.specs.Meaning.{Body, Program, Active, spot_in, after_hop, leaves, next, entered_or, program_of, words_at_start as graph_words, globals_at_start, graph_run}
+use Rattle.vx_flow.specs.Effects.{State}
+use Rattle.vx_flow.specs.Meaning.{Program, spot_in, after_hop, leaves, next, entered_or, program_of, words_at_start as graph_words, globals_at_start, graph_run}
 use Rattle.vx_flow.proofs.RunLaws.{graph_run_steady}
 use Rattle.vx_lower.specs.FlowOf.{AreNumbers}
-use Rattle.vx_lower.specs.Holds.{ends}
-use Rattle.vx_lower.specs.Lowered.{global_of, sees_of, Lowered, AllLowered, LoweringLaw}
-use Rattle.vx_lower.proofs.Base.{SameRow, and_one, and_two}
-use Rattle.vx_lower.proofs.Steps.{Here, Entry, active_at, rest_run, Gives, arrival}
-use Rattle.vx_lower.proofs.Ties.{InRange}
+use Rattle.vx_lower.specs.Lowered.{global_of, sees_of, AllLowered, LoweringLaw}
+use Rattle.vx_lower.proofs.Base.{and_one, and_two}
+use Rattle.vx_lower.proofs.Steps.{Here, active_at, rest_run, Gives, arrival}
 use Rattle.vx_lower.proofs.Values.{zero_fits}
-use Rattle.vx_lower.proofs.Calls.{Fronts, fronts_on, deep, has_blocks, start_state, Rows, Handing, tied_start, Ended, Endings, body_ends, calls_meet, graph_there, count_globals, same_globals, body_there}
+use Rattle.vx_lower.proofs.Calls.{Fronts, fronts_on, deep, has_blocks, start_state, Rows, Handing, tied_start, Ended, Endings, body_ends, calls_meet, graph_there, count_globals, body_there}
 use Rattle.vx_lower.proofs.Passing.{same_spots}
 use Rattle.vx_lower.proofs.Facts.{globals_suit, main_suits, numbers_are, few_own, few_global, zeros_fit, RowsFit, length_replicate}
 

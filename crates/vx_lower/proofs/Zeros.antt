@@ -1,10 +1,9 @@
 -- The graph sets all words of an array to 0.
-use Rattle.std.proofs.Common.{◌≡◌, ℕ, zero, suc, ◌+◌, ◌<◌, ◌≤◌, ◌⊎◌, ◌*◌, ◌^◌, ℤ, pos, negsuc, Bool, true, false, cond, ◌||◌, List, [], ◌∷◌, ◌++◌, length, map, slice_index_or, slice_set, Option, Some, None, refl, sym, ap, ◌∙◌, subst, inl, inr, arith, ltb-true, lt-ltb}
-use Rattle.std.specs.Prelude.{nat_lt, nat_eq, slice_get}
-use Rattle.std.proofs.lemmas.Int.{ints}
+use Rattle.std.proofs.Common.{◌≡◌, ℕ, zero, suc, ◌+◌, ◌<◌, ◌⊎◌, ◌^◌, ℤ, pos, true, false, cond, ◌||◌, List, [], ◌∷◌, length, map, slice_index_or, slice_set, Some, refl, sym, ap, ◌∙◌, subst, inl, inr, arith}
+use Rattle.std.specs.Prelude.{nat_lt, nat_eq}
 use Rattle.std.proofs.lemmas.List.{length-map}
 use Rattle.std.proofs.lemmas.Bool.Decides.{eqb_tells}
-use Rattle.vx_base.specs.Arithmetic.{IsNumber, one_if, compare_of, product_of, sum_of}
+use Rattle.vx_base.specs.Arithmetic.{IsNumber, one_if, compare_of, product_of}
 use Rattle.vx_base.specs.declared.arithmetic.Code.TheVariants.{Add, Mov, ToBranch}
 use Rattle.vx_base.specs.declared.arithmetic.Compare.TheVariants.{Lt}
 use Rattle.vx_ast.specs.Meaning.{Store, cleared, array_at}
@@ -15,12 +14,11 @@ use Rattle.vx_flow.specs.declared.graph.Op.TheVariants.{Compute, Place, Store as
 use Rattle.vx_flow.specs.declared.graph.Block.{Block}
 use Rattle.vx_flow.specs.Effects.{Content, State, held, with_value, with_cell, row_of, place_of}
 use Rattle.vx_flow.specs.Meaning.{Program}
-use Rattle.vx_lower.specs.Seen.{Sees, seen_at, size_at}
-use Rattle.vx_lower.specs.Holds.{Goes, jump}
+use Rattle.vx_lower.specs.Seen.{Sees}
 use Rattle.vx_lower.specs.Does.{Zeroes}
-use Rattle.vx_lower.proofs.Base.{SameRow, set_row, set_shape, length_of_row, is_below, one_up}
+use Rattle.vx_lower.proofs.Base.{SameRow, set_row, set_shape, is_below, one_up}
 use Rattle.vx_lower.proofs.Steps.{Here, setting_at, HasBlocks, Comes, comes_on, comes_goes, comes_past, comes_tests, later_jump, is_later}
-use Rattle.vx_lower.proofs.Ties.{InForce, Above, Tied, Keeps, keeps_value, value_there, computes, stores, range_row, same_count, row_length, source_length, tied_row}
+use Rattle.vx_lower.proofs.Ties.{InForce, Above, Tied, Keeps, keeps_value, value_there, computes, stores, range_row, same_count, row_length, source_length}
 use Rattle.vx_lower.proofs.Values.{zero_fits}
 
 -- the first k words are 0

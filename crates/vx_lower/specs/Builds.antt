@@ -1,14 +1,12 @@
 -- What a graph that is being made says of each graph that finishes it.
-use Rattle.std.specs.Prelude.{◌≡◌, ◌⊎◌, ℕ, ◌+◌, ◌<◌, ◌≤◌, Option, Some, None, List, [], ◌∷◌, ◌++◌, length, slice_get, slice_set}
+use Rattle.std.specs.Prelude.{◌≡◌, ◌⊎◌, ℕ, ◌<◌, ◌≤◌, Some, None, List, [], ◌∷◌, ◌++◌, length, slice_get, slice_set}
 use Rattle.vx_base.specs.declared.outcome.Trap.{Trap}
-use Rattle.vx_ast.specs.Tree.{One, Row, Tree}
 use Rattle.vx_flow.specs.declared.graph.Bank.{Bank}
-use Rattle.vx_flow.specs.declared.graph.Operand.{Operand}
 use Rattle.vx_flow.specs.declared.graph.Op.{Op}
 use Rattle.vx_flow.specs.declared.graph.Exit.{Exit}
 use Rattle.vx_flow.specs.declared.graph.Exit.TheVariants.{Goto, Split, Call, Return, Ends}
 use Rattle.vx_flow.specs.declared.graph.Block.{Block}
-use Rattle.vx_lower.specs.Holds.{IsBelow, Goes, Tests, Way, To, Holds, then_op, ends, jump}
+use Rattle.vx_lower.specs.Holds.{Goes, Tests, then_op, ends}
 use Rattle.vx_lower.specs.declared.builder.Builder.{Builder}
 
 -- the steps

@@ -1,9 +1,9 @@
 -- A finished graph has the code of a statement, from the rest of one block to the rest of another.
-use Rattle.std.specs.Prelude.{◌≡◌, ℕ, ◌<◌, ◌≤◌, ℤ, pos, List, [], ◌∷◌, ◌++◌, map, Bool, true, false, Option, Some, None, length, slice_get}
+use Rattle.std.specs.Prelude.{◌≡◌, ℕ, ◌<◌, ◌≤◌, pos, List, [], ◌∷◌, ◌++◌, map, Bool, true, false, Option, Some, None, length, slice_get}
 use Rattle.vx_base.specs.declared.arithmetic.Code.TheVariants.{Add, Sub, Mov, ToBranch}
 use Rattle.vx_base.specs.declared.arithmetic.Compare.TheVariants.{Lt}
 use Rattle.vx_ast.specs.declared.tree.BinaryOperator.{BinaryOperator}
-use Rattle.vx_ast.specs.Tree.{Shape, One, Row, Tree, Literal, Local, Global, Element, Unary, Binary, Both, Either, Choice, Apply, ReadInt, MoreInput, NoMore, Then, Place, InLocal, InGlobal, InElement, Action, Evaluate, Assign, Compound, Increase, Decrease, Code, Nothing, Seq, Empty, Block as Braces, Clear, Declare, ClearArray, Simply, Head, Print, If, IfElse, While, DoWhile, For, Break, Continue, Return, ReturnValue}
+use Rattle.vx_ast.specs.Tree.{Shape, One, Row, Tree, Apply, Place, InLocal, InGlobal, InElement, Action, Evaluate, Assign, Compound, Increase, Decrease, Code, Nothing, Seq, Empty, Block as Braces, Clear, Declare, ClearArray, Simply, Head, Print, If, IfElse, While, DoWhile, For, Break, Continue, Return, ReturnValue}
 use Rattle.vx_ast.specs.Meaning.{Piece, AByte, ANumber, pieces_of}
 use Rattle.vx_flow.specs.declared.graph.Operand.{Operand}
 use Rattle.vx_flow.specs.declared.graph.Operand.TheVariants.{Held, Number}

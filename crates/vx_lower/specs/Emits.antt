@@ -1,5 +1,5 @@
 -- What the code that was added to a graph that is being made says of each graph that finishes it.
-use Rattle.std.specs.Prelude.{◌≡◌, ℕ, ◌<◌, ◌≤◌, ℤ, pos, true, Option, Some, None, List, [], ◌∷◌, ◌++◌, length, slice_get}
+use Rattle.std.specs.Prelude.{◌≡◌, ℕ, ◌<◌, ◌≤◌, pos, Option, Some, None, List, [], ◌∷◌, ◌++◌, length, slice_get}
 use Rattle.vx_ast.specs.declared.tree.BinaryOperator.{BinaryOperator}
 use Rattle.vx_ast.specs.Accepted.{row_length}
 use Rattle.vx_ast.specs.Tree.{Shape, One, Row, Tree, Literal, Local, Global, Element, Unary, Binary, Both, Either, Choice, Apply, ReadInt, MoreInput, NoMore, Then, Hand}
@@ -14,7 +14,7 @@ use Rattle.vx_flow.specs.declared.graph.Op.TheVariants.{Compute, Base}
 use Rattle.vx_flow.specs.declared.graph.Block.{Block}
 use Rattle.vx_lower.specs.Seen.{Sees, seen_at}
 use Rattle.vx_lower.specs.Holds.{IsBelow, Goes, Tests, Checks, Combines, Bases, Way, To, Into, Tested, Lands, Holds, then_op}
-use Rattle.vx_lower.specs.Builds.{Ready, Grows, Finishes, Opens, From, with_value}
+use Rattle.vx_lower.specs.Builds.{Grows, Finishes, Opens, From, with_value}
 use Rattle.vx_lower.specs.declared.builder.Builder.{Builder}
 
 -- each scalar that the tree names is below n

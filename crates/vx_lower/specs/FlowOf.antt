@@ -1,5 +1,5 @@
 -- The graphs of a program: they do what it does, on every input, and have the shape that the later layers ask for.
-use Rattle.std.specs.Prelude.{◌≡◌, ◌<◌, ◌≤◌, ◌*◌, ℕ, suc, ℤ, Bool, true, false, List, [], ◌∷◌, ◌++◌, length, map, replicate, count_by, Option, Some, None, slice_get}
+use Rattle.std.specs.Prelude.{◌≡◌, ◌<◌, ◌≤◌, ◌*◌, ℕ, suc, ℤ, Bool, true, false, List, [], ◌∷◌, ◌++◌, length, map, replicate, count_by, Some, slice_get}
 use Rattle.vx_base.specs.Arithmetic.{IsNumber}
 use Rattle.vx_base.specs.Outcome.{Same, NeverFails}
 use Rattle.vx_base.specs.declared.outcome.Trap.{Trap}

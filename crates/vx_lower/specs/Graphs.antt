@@ -1,5 +1,5 @@
 -- The graphs of functions, before it is known which texts the program prints behind theirs.
-use Rattle.std.specs.Prelude.{◌≡◌, ℕ, ◌<◌, ◌≤◌, pos, Some, None, List, [], ◌∷◌, ◌++◌, length, map, replicate, slice_get}
+use Rattle.std.specs.Prelude.{◌≡◌, ℕ, ◌<◌, ◌≤◌, pos, Some, None, List, [], ◌∷◌, length, map, replicate, slice_get}
 use Rattle.vx_base.specs.declared.outcome.Trap.{Trap}
 use Rattle.vx_ast.specs.Tree.{Function, Program}
 use Rattle.vx_flow.specs.declared.graph.Bank.TheVariants.{General}

@@ -1,8 +1,7 @@
 -- What the code of statements that was added to a graph that is being made says of each graph that finishes it.
-use Rattle.std.specs.Prelude.{◌≡◌, ℕ, suc, ◌<◌, ◌≤◌, ℤ, pos, Bool, true, false, Option, Some, None, List, [], ◌∷◌, ◌++◌, length, map, slice_get}
+use Rattle.std.specs.Prelude.{◌≡◌, ℕ, suc, ◌<◌, ◌≤◌, pos, Bool, true, false, Option, Some, None, List, [], ◌∷◌, ◌++◌, length, map, slice_get}
 use Rattle.vx_base.specs.declared.arithmetic.Code.TheVariants.{Add}
-use Rattle.vx_ast.specs.declared.tree.BinaryOperator.{BinaryOperator}
-use Rattle.vx_ast.specs.Tree.{Shape, One, Row, Tree, Place, InLocal, InGlobal, InElement, Action, Evaluate, Assign, Compound, Increase, Decrease, Code, Nothing, Seq, Empty, Block as Braces, Clear, Declare, ClearArray, Simply, Head, Print, If, IfElse, While, DoWhile, For, Break, Continue, Return, ReturnValue}
+use Rattle.vx_ast.specs.Tree.{One, Tree, Place, InLocal, InGlobal, InElement, Action, Evaluate, Assign, Compound, Increase, Decrease, Code, Nothing, Seq, Empty, Block as Braces, Clear, Declare, ClearArray, Simply, Head, Print, If, IfElse, While, DoWhile, For, Break, Continue, Return, ReturnValue}
 use Rattle.vx_ast.specs.Meaning.{Piece, AByte, ANumber, pieces_of, directive_of}
 use Rattle.vx_ast.specs.Accepted.{row_length}
 use Rattle.vx_flow.specs.declared.graph.Operand.{Operand}
@@ -14,7 +13,7 @@ use Rattle.vx_flow.specs.declared.graph.Block.{Block}
 use Rattle.vx_lower.specs.Seen.{Sees}
 use Rattle.vx_lower.specs.Holds.{IsBelow, Goes, Lands, then_op, ends}
 use Rattle.vx_lower.specs.Does.{Change, By, Up, Down, Changes, Acts, Shows, Asks, Does}
-use Rattle.vx_lower.specs.Builds.{Ready, Grows, Finishes, Opens, From}
+use Rattle.vx_lower.specs.Builds.{Grows, Finishes, Opens, From}
 use Rattle.vx_lower.specs.Emits.{IsWithin, Spare, way_of}
 use Rattle.vx_lower.specs.declared.builder.Builder.{Builder}
 use Rattle.vx_lower.specs.declared.prints.Format.{Format}

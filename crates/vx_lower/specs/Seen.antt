@@ -1,6 +1,6 @@
 -- What the code of a function names: its scalars, and the arrays that it sees, which are the globals, those that are handed
 -- over to it and its own.
-use Rattle.std.specs.Prelude.{ℕ, suc, ◌^◌, pos, Bool, true, false, nat_lt, Option, Some, None, List, [], ◌∷◌, slice_index_or}
+use Rattle.std.specs.Prelude.{ℕ, suc, ◌^◌, pos, Bool, true, false, nat_lt, Some, None, List, [], ◌∷◌, slice_index_or}
 use Rattle.std.specs.List.{list_all}
 use Rattle.vx_flow.specs.declared.graph.Operand.{Operand}
 use Rattle.vx_flow.specs.declared.graph.Operand.TheVariants.{Held, Number}

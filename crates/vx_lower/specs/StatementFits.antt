@@ -1,5 +1,5 @@
 -- The code of statements keeps a graph that is being made well shaped, and takes few values.
-use Rattle.std.specs.Prelude.{ℕ, ◌+◌, ◌*◌, ◌<◌, ◌≤◌, Option, Some, None, List, length}
+use Rattle.std.specs.Prelude.{ℕ, ◌+◌, ◌*◌, ◌≤◌, Option, Some, None, List, length}
 use Rattle.vx_ast.specs.Accepted.{code_nodes, scalars_of, test_nodes}
 use Rattle.vx_ast.specs.Tree.{One, Tree, Code}
 use Rattle.vx_flow.specs.declared.graph.Operand.{Operand}

@@ -4,3 +4,4 @@ pub mod Turns
 pub mod Found
 pub mod Pairs
 pub mod Moved
+mod BaseRows

@@ -1,4 +1,4 @@
-use Rattle.std.proofs.Common.{[], sym, subst, take}
+use Rattle.std.proofs.Common.{sym, subst, take}
 use Rattle.vx_ast.specs.Tree.{NoMore}
 use Rattle.vx_ast.specs.View.{row_in}
 use Rattle.vx_lower.specs.Emits.{EmitsFront, EmitsRow}

@@ -1,4 +1,4 @@
-use Rattle.std.proofs.Common.{refl, ap, ◌∙◌, subst, sym, arith, ◌<◌, ◌^◌, length}
+use Rattle.std.proofs.Common.{arith}
 use Rattle.vx_lower.proofs.lowering.lower_function.Goals as goal
 
 pub count_arrays-count-requires : goal.count_arrays-count-requires

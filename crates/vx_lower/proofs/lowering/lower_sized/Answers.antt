@@ -1,8 +1,7 @@
-use Rattle.std.proofs.Common.{◌∙◌, ◌++◌, ◌+◌, ◌*◌, ap, map, subst, sym, refl, ◌≡◌}
+use Rattle.std.proofs.Common.{◌∙◌, ◌++◌, ◌+◌, ◌*◌, ap, map, subst, refl, ◌≡◌}
 use Rattle.vx_ast.specs.Accepted.{arrays_taken}
 use Rattle.vx_ast.specs.View.{function_of, program_of}
 use Rattle.vx_flow.specs.declared.graph.Graph.{Graph}
-use Rattle.vx_lower.specs.declared.seen.Seen.{Seen}
 use Rattle.vx_lower.specs.declared.seen.Seen.TheVariants.{OwnArray}
 use Rattle.vx_lower.specs.Seen.{Sees, arrays_from}
 use Rattle.vx_lower.specs.FunctionShape.{BodyWell}
