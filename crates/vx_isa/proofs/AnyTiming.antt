@@ -27,9 +27,10 @@ use Rattle.vx_isa.specs.declared.program.WordProgram.{WordProgram}
 use Rattle.vx_isa.specs.Numbers.{Numbers, IsMachine}
 use Rattle.vx_isa.specs.Operations.{same, is_zero, destination_of, list_of, is_call, latency_of}
 use Rattle.vx_isa.specs.Fits.{operands, destinations, is_twice, is_bad_word, fits}
-use Rattle.vx_isa.specs.Machine.{State, Lead, To, Halts, TrapsBy, number_of, write_to, time_of, writes_of, is_asked, asked_by, takes_input, memory_after, print_of, lead_of, is_taken, register, stuck_by, cycles_of, after_cycles, effect, leads_to, unless_stuck, issue, step, start, words_run}
+use Rattle.vx_isa.specs.Machine.{State, Lead, To, Halts, TrapsBy, number_of, write_to, time_of, writes_of, is_asked, asked_by, takes_input, memory_after, print_of, lead_of, is_taken, register, stuck_by, cycles_of, after_cycles, effect, leads_to, unless_stuck, issue, step, start, issuing_machine, words_from}
 use Rattle.vx_isa.specs.Paths.{LeadsTo, WordAt, Leads, cycles_at, cycles_of_some, Among, ReadsAt, WritesAt, NamesAt, NeverReadsEarly, NeverWritesEarly, PathStrictLaw, AnyTimingLaw}
 use Rattle.vx_isa.specs.Strict.{Reaches, IsPending}
+use Rattle.vx_isa.proofs.IssuingMachine.{issuing_machine_law, reads_for, names_for}
 use Rattle.vx_isa.proofs.Alike.{AllAgree, SameRest, stuck_alike, lead_alike, memory_alike, prints_alike, writes_alike}
 
 -- whether a step goes on, and its state, or another where it does not
@@ -354,7 +355,7 @@ module _ (m : Numbers) (w : WordProgram) (is_one : IsMachine m) where
       }
 
       -- under any two timings the runs are alike, word for word
-      pub any_timing : (input : List ℤ) (n : ℕ) → words_run m times w input n ≡ words_run m times' w input n
+      pub any_timing : (input : List ℤ) (n : ℕ) → words_from m times w n (start w input) ≡ words_from m times' w n (start w input)
       any_timing input n = run_in_step (step m times w) (λ s. s.out) (step m times' w) (λ s. s.out) Tied steps (λ s t tied. tied.rest.out) n (start w input) (start w input) (at_start input)
 
 -- a word that fits, fits a machine
@@ -365,8 +366,8 @@ pub path_strict_law : PathStrictLaw
 path_strict_law m w path = record {
   fit = path.fit;
   never_early = λ times input n s word r some ranges reach at named zero_not pending.
-      strict m w (machine_of m word.ops (path.fit s.place word at)) path.never_early times input n s word r reach at named zero_not pending;
+      strict (issuing_machine w m) w (machine_of (issuing_machine w m) word.ops (path.fit s.place word at)) (reads_for w m path.never_early) times input n s word r reach at named zero_not pending;
 }
 
 pub any_timing_law : AnyTimingLaw
-any_timing_law m w is_one reads writes times times' input n = any_timing m w is_one reads writes times times' input n
+any_timing_law m w is_one reads writes times times' input n = any_timing (issuing_machine w m) w (issuing_machine_law w m is_one) (reads_for w m reads) (names_for w m writes) times times' input n

@@ -1,5 +1,5 @@
 -- The test of a word and the words for it.
-use Rattle.std.proofs.Common.{◌≡◌, ℕ, zero, suc, ◌<◌, ◌≤◌, Bool, ◌&&◌, ◌==◌, true, false, nat_lt, nat_le, List, [], ◌∷◌, ◌++◌, sym, ◌∙◌, refl, inl, inr, count_by, arith}
+use Rattle.std.proofs.Common.{◌≡◌, ℕ, zero, suc, ◌<◌, ◌≤◌, Bool, ◌&&◌, ◌||◌, not, ◌==◌, ◌⊎◌, All, slice_index_or, ap, true, false, nat_lt, nat_le, List, [], ◌∷◌, ◌++◌, sym, ◌∙◌, refl, inl, inr, count_by, arith}
 use Rattle.std.proofs.lemmas.Bool.{false≢true, cases_eq, and_parts, leb-true, le-leb, lt-ltb}
 use Rattle.std.proofs.lemmas.Bool.Decides.{nat_tests, leb_tells}
 use Rattle.std.specs.Cmp.Derive.{both_true}
@@ -11,8 +11,8 @@ use Rattle.vx_isa.specs.declared.operation.Register.{Register}
 use Rattle.vx_isa.specs.declared.operation.Register.TheVariants.{General, Branch, Link}
 use Rattle.vx_isa.specs.declared.operation.Operation.{Operation}
 use Rattle.vx_isa.specs.Numbers.{Numbers, is_machine}
-use Rattle.vx_isa.specs.Operations.{list_of, cluster_of, reads_of, destination_of, is_control, is_observable}
-use Rattle.vx_isa.specs.Fits.{operands, destinations, all_below, stands_on, fits_cluster, FitsMachine, FitsInWords, is_of, count_on, reads_on, writes_on, has, is_in_file, IsInFile, takes_read_port, takes_write_port}
+use Rattle.vx_isa.specs.Operations.{list_of, cluster_of, reads_of, destination_of, is_control, is_lone, is_observable}
+use Rattle.vx_isa.specs.Fits.{operands, destinations, all_below, stands_on, fits_cluster, fits_control, FitsMachine, FitsInWords, is_of, count_on, reads_on, writes_on, has, is_in_file, IsInFile, takes_read_port, takes_write_port}
 use Rattle.vx_isa.proofs.Lists.{list_all-flat_map, count_by-none, count_by-cons}
 
 -- the registers of a word pass where those of each operation do
@@ -131,7 +131,29 @@ cluster_parts m ops k all below = six_parts _ _ _ _ _ _ (all_below-at (fits_clus
 abbrev WordFits : Numbers → List Operation → Type 0
 WordFits m ops =
     Six (is_machine m) (stands_on m ops) (all_below m.clusters (fits_cluster m ops))
-    (nat_le (count_by (is_of Copies) ops) m.copy_paths) (nat_le (count_by is_control ops) 1) (nat_le (count_by is_observable ops) 1)
+    (nat_le (count_by (is_of Copies) ops) m.copy_paths) (fits_control m ops) (nat_le (count_by is_observable ops) 1)
+
+-- the control places
+
+or_right : (a b : Bool) → b ≡ true → (a || b) ≡ true
+or_right true b h = refl
+or_right false b h = h
+
+lone_in_words : (ops : List Operation) (b : Bool) → nat_le (count_by is_control ops) 1 ≡ b → (b || list_all (λ op. not (is_lone op)) ops) ≡ true →
+    (count_by is_control ops ≤ 1) ⊎ All (λ op. is_lone op ≡ false) ops
+lone_in_words ops true e h = inl (leb-true _ _ e)
+lone_in_words ops false e h = inr (λ k d below. none (slice_index_or ops k d) (AllPass-from_list_all (λ op. not (is_lone op)) ops h k d below))
+  where
+    none : (op : Operation) → not (is_lone op) ≡ true → is_lone op ≡ false
+    none op h = by (is_lone op) refl h
+      where
+        by : (b : Bool) → is_lone op ≡ b → not b ≡ true → b ≡ false
+        by true e h = absurd (false≢true h)
+        by false e h = refl
+
+lone_by_test : (ops : List Operation) → (count_by is_control ops ≤ 1) ⊎ All (λ op. is_lone op ≡ false) ops → (nat_le (count_by is_control ops) 1 || list_all (λ op. not (is_lone op)) ops) ≡ true
+lone_by_test ops (inl few) = rw (le-leb _ _ few)
+lone_by_test ops (inr none) = or_right (nat_le (count_by is_control ops) 1) _ (list_all-from_AllPass (λ op. not (is_lone op)) ops (λ k d below. ap not (none k d below)))
 
 in_words : (m : Numbers) (ops : List Operation) → WordFits m ops → FitsMachine m ops
 in_words m ops s =
@@ -148,7 +170,8 @@ in_words m ops s =
       write_ports = λ k. limit m k m.write_ports _ (λ below. (each k below).six) (λ gone. count_by-none (takes_write_port k) (is_in_file m) (destinations ops) (λ r there. writes_none m k r gone there) writes);
       registers = λ k d h. in_file m _ (AllPass-from_list_all (is_in_file m) (operands ops ++ destinations ops) inside k d h);
       copies = leb-true _ _ s.four;
-      control = leb-true _ _ s.five;
+      control = leb-true _ _ (and_parts _ _ s.five).0;
+      lone = lone_in_words ops (nat_le (count_by is_control ops) 1) refl (and_parts _ _ s.five).1;
       observable = leb-true _ _ s.six;
     }
 
@@ -165,7 +188,7 @@ by_test m ops f = record {
     six = limit_at m k m.write_ports _ below (f.write_ports k);
   }));
   four = le-leb _ _ f.copies;
-  five = le-leb _ _ f.control;
+  five = both_true (le-leb _ _ f.control) (lone_by_test ops f.lone);
   six = le-leb _ _ f.observable;
 }
 

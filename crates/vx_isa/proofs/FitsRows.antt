@@ -7,9 +7,9 @@ use Rattle.vx_isa.specs.declared.operation.GeneralRegister.{GeneralRegister}
 use Rattle.vx_isa.specs.declared.operation.Register.TheVariants.{General}
 use Rattle.vx_isa.specs.declared.operation.Source.TheVariants.{Held, Number}
 use Rattle.vx_isa.specs.declared.operation.Operation.{Operation}
-use Rattle.vx_isa.specs.declared.operation.Operation.TheVariants.{Compute, Move, OutDecimal, Goto, BranchOn, Call, ToLink}
+use Rattle.vx_isa.specs.declared.operation.Operation.TheVariants.{Compute, Move, OutDecimal, Goto, BranchOn, Call, Return, ToLink}
 use Rattle.vx_isa.specs.declared.program.WordProgram.{WordProgram}
-use Rattle.vx_isa.specs.Numbers.{vex, narrow}
+use Rattle.vx_isa.specs.Numbers.{Numbers, is_machine, vex, narrow}
 use Rattle.vx_isa.specs.Fits.{is_bad_word, fits}
 use Rattle.vx_isa.specs.Machine.{words_run}
 
@@ -56,6 +56,32 @@ print_and_jump_fit = refl
 two_jumps_do_not_fit : fits (vex 1) (Goto 0 ∷ BranchOn 0 true 0 ∷ []) ≡ false
 two_jumps_do_not_fit = refl
 
+-- two branches on a machine of two; nothing else beside a branch, and not three
+
+abbrev of_two : Numbers
+of_two = record (vex 1) { branches = 2 }
+
+two_branches_do_not_fit_one : fits (vex 1) (BranchOn 0 true 0 ∷ BranchOn 1 false 0 ∷ []) ≡ false
+two_branches_do_not_fit_one = refl
+
+two_branches_fit : fits of_two (BranchOn 0 true 0 ∷ BranchOn 1 false 0 ∷ []) ≡ true
+two_branches_fit = refl
+
+jump_beside_branch_does_not_fit : fits of_two (BranchOn 0 true 0 ∷ Goto 0 ∷ []) ≡ false
+jump_beside_branch_does_not_fit = refl
+
+call_beside_branch_does_not_fit : fits of_two (Call 0 ∷ BranchOn 0 true 0 ∷ []) ≡ false
+call_beside_branch_does_not_fit = refl
+
+jump_alone_fits : fits of_two (Return ∷ []) ≡ true
+jump_alone_fits = refl
+
+three_branches_do_not_fit : fits of_two (BranchOn 0 true 0 ∷ BranchOn 1 false 0 ∷ BranchOn 2 true 0 ∷ []) ≡ false
+three_branches_do_not_fit = refl
+
+three_branches_are_no_machine : is_machine (record (vex 1) { branches = 3 }) ≡ false
+three_branches_are_no_machine = refl
+
 -- words that are not well formed: a cluster that is not there, a register past its file, register 0 twice, the link
 -- twice, a source of another cluster
 
@@ -77,7 +103,7 @@ foreign_source = refl
 -- what a run answers
 
 abbrev program : ℕ → List (List Operation) → WordProgram
-program memory words = record { memory = memory; start = []; texts = []; words = map (λ ops. record { ops = ops; idle = 0 }) words }
+program memory words = record { version = 1; memory = memory; start = []; texts = []; words = map (λ ops. record { ops = ops; idle = 0 }) words }
 
 overfull_at_0 : words_run (vex 1) (16 ∷ []) (program 0 (five ∷ [])) [] 1 ≡ Stuck Overfull 0 []
 overfull_at_0 = refl

@@ -7,4 +7,5 @@ pub mod FitsLaw
 pub mod Steady
 pub mod SoundLaw
 pub mod Alike
+pub mod IssuingMachine
 pub mod AnyTiming

@@ -34,10 +34,12 @@ pub record Ranges (m : Numbers) : Type 0 where
   pub load : Between 1 16 m.latency_load
   pub divide : Between 1 16 m.latency_divide
   pub copy : Between 1 16 m.latency_copy
+  pub branches : Between 1 2 m.branches
 
 pub ranges : (m : Numbers) → IsMachine m → Ranges m
-ranges m e0 =
-    let e1 = and_parts _ (is_between 1 16 m.latency_copy) e0 in
+ranges m e =
+    let e0 = and_parts _ (is_between 1 2 m.branches) e in
+    let e1 = and_parts _ (is_between 1 16 m.latency_copy) e0.0 in
     let e2 = and_parts _ (is_between 1 16 m.latency_divide) e1.0 in
     let e3 = and_parts _ (is_between 1 16 m.latency_load) e2.0 in
     let e4 = and_parts _ (is_between 1 16 m.latency_multiply) e3.0 in
@@ -69,6 +71,7 @@ ranges m e0 =
       load = between 1 16 m.latency_load e3.1;
       divide = between 1 16 m.latency_divide e2.1;
       copy = between 1 16 m.latency_copy e1.1;
+      branches = between 1 2 m.branches e0.1;
     }
 
 -- the latency of an operation that writes a register and is no call is one of the machine's

@@ -7,7 +7,7 @@ use Rattle.std.proofs.lemmas.List.Sums.{AllPass-from_list_all, list_all-from_All
 use Rattle.std.specs.Cmp.Derive.{both_true}
 use Rattle.vx_isa.specs.declared.program.Word.{Word}
 use Rattle.vx_isa.specs.declared.program.WordProgram.{WordProgram}
-use Rattle.vx_isa.specs.Sound.{is_not_zero, is_start, is_sound_operation, is_sound_word, is_sound, IsSound, SoundInWords}
+use Rattle.vx_isa.specs.Sound.{is_not_zero, is_start, is_sound_operation, is_sound_word, is_version, is_sound, IsSound, SoundInWords}
 
 abbrev Entry : Type 0
 Entry = ℕ × ℤ
@@ -110,13 +110,26 @@ word_by_test words texts w idle all = both_true (both_true (le-leb w.idle 255 id
 
 -- both directions
 
+version_in_words : (n : ℕ) → is_version n ≡ true → (n ≡ 1) ⊎ (n ≡ 2)
+version_in_words n h =
+    elim (or_parts (n == 1) (n == 2) h) [
+      | inl one ↦ inl (eqb-true _ _ one)
+      | inr two ↦ inr (eqb-true _ _ two)
+    ]
+
+version_by_test : (n : ℕ) → (n ≡ 1) ⊎ (n ≡ 2) → is_version n ≡ true
+version_by_test n (inl one) = rw (eq-eqb _ _ one)
+version_by_test n (inr two) = or_right (n == 1) (n == 2) (eq-eqb _ _ two)
+
 in_words : (p : WordProgram) → is_sound p ≡ true → IsSound p
 in_words p h =
     let (abc, d) = and_parts _ _ h in
     let (ab, c) = and_parts _ _ abc in
-    let (a, b) = and_parts _ _ ab in
+    let (va, b) = and_parts _ _ ab in
+    let (v, a) = and_parts _ _ va in
     let each = AllPass-from_list_all (is_sound_word (length p.words) (length p.texts)) p.words d in
     record {
+      version = version_in_words p.version v;
       memory = (eqb-true _ _ a, leb-true _ _ b);
       start = all_good p.memory 0 p.start c;
       ascending = ascend p.memory 0 p.start c;
@@ -128,7 +141,7 @@ by_test : (p : WordProgram) → IsSound p → is_sound p ≡ true
 by_test p s =
     let first = starts p.memory 0 p.start (λ j d h. omega arith) s.start s.ascending in
     let each = list_all-from_AllPass (is_sound_word (length p.words) (length p.texts)) p.words (λ k w below. word_by_test (length p.words) (length p.texts) (slice_index_or p.words k w) (s.idle k w below) (s.operations k w below)) in
-    both_true (both_true (both_true (eq-eqb _ _ s.memory.0) (le-leb _ _ s.memory.1)) first) each
+    both_true (both_true (both_true (both_true (version_by_test p.version s.version) (eq-eqb _ _ s.memory.0)) (le-leb _ _ s.memory.1)) first) each
 
 pub sound_in_words : SoundInWords
 sound_in_words p = (in_words p, by_test p)

@@ -15,7 +15,7 @@ abbrev word : ℕ → List Operation → Word
 word idle ops = record { ops = ops; idle = idle }
 
 abbrev program : ℕ → List Word → WordProgram
-program memory words = record { memory = memory; start = []; texts = []; words = words }
+program memory words = record { version = 1; memory = memory; start = []; texts = []; words = words }
 
 abbrev ends : Word
 ends = word 0 (Halt (Number (pos 0)) ∷ [])
@@ -71,3 +71,14 @@ compare_to_general = refl
 
 sum_to_branch : is_sound_operation 0 0 (Compute 0 Add (Branch (record { cluster = 0; number = 7 })) (Number (pos 0)) (Number (pos 1))) ≡ false
 sum_to_branch = refl
+
+-- versions 1 and 2 alone
+
+second_version : is_sound (record (program 0 []) { version = 2 }) ≡ true
+second_version = refl
+
+no_version : is_sound (record (program 0 []) { version = 0 }) ≡ false
+no_version = refl
+
+third_version : is_sound (record (program 0 []) { version = 3 }) ≡ false
+third_version = refl

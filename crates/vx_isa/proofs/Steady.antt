@@ -1,15 +1,15 @@
 -- The output of the word machine only grows, so its runs are steady.
-use Rattle.std.proofs.Common.{◌≡◌, ℕ, zero, suc, ◌+◌, ℤ, List, ◌++◌, Option, Some, None, refl, subst}
+use Rattle.std.proofs.Common.{◌≡◌, ℕ, zero, suc, List, Option, Some, None, refl, subst}
 use Rattle.std.specs.Prelude.{slice_get}
 use Rattle.std.specs.List.{flat_map}
-use Rattle.vx_base.specs.Outcome.{output_of, Begins, Steady, Step, On, Over}
+use Rattle.vx_base.specs.Outcome.{output_of, Begins, Step, On, Over}
 use Rattle.vx_base.specs.declared.outcome.Reason.{Reason}
 use Rattle.vx_base.proofs.Same.{begins_self}
 use Rattle.vx_base.proofs.Runs.{Grows, run_steady}
 use Rattle.vx_isa.specs.declared.program.Word.{Word}
 use Rattle.vx_isa.specs.declared.program.WordProgram.{WordProgram}
 use Rattle.vx_isa.specs.Numbers.{Numbers}
-use Rattle.vx_isa.specs.Machine.{State, Lead, To, Halts, TrapsBy, after_cycles, print_of, cycles_of, effect, leads_to, unless_stuck, issue, step, start, words_run, lead_of, stuck_by}
+use Rattle.vx_isa.specs.Machine.{State, Lead, To, Halts, TrapsBy, after_cycles, print_of, cycles_of, effect, leads_to, unless_stuck, issue, step, start, issuing_machine, lead_of, stuck_by}
 use Rattle.vx_isa.specs.Steady.{WordsAreSteady}
 
 pub after_cycles_out : (n : ℕ) (s : State) → (after_cycles n s).out ≡ s.out
@@ -49,4 +49,4 @@ module _ (m : Numbers) (times : List ℕ) (w : WordProgram) where
   }
 
 pub words_are_steady : WordsAreSteady
-words_are_steady m times w input = run_steady (step m times w) (λ t. t.out) (output_grows m times w) (start w input)
+words_are_steady m times w input = run_steady (step (issuing_machine w m) times w) (λ t. t.out) (output_grows (issuing_machine w m) times w) (start w input)

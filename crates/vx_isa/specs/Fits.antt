@@ -1,5 +1,5 @@
 -- When a word is well formed for a machine, and when it fits.
-use Rattle.std.specs.Prelude.{◌≡◌, ◌↔◌, ◌<◌, ◌≤◌, All, ℕ, zero, suc, Bool, true, false, ◌&&◌, ◌||◌, not, ◌==◌, if◌then◌else◌, nat_lt, nat_le, List, [], ◌∷◌, ◌++◌, count_by}
+use Rattle.std.specs.Prelude.{◌≡◌, ◌↔◌, ◌⊎◌, ◌<◌, ◌≤◌, All, ℕ, zero, suc, Bool, true, false, ◌&&◌, ◌||◌, not, ◌==◌, if◌then◌else◌, nat_lt, nat_le, List, [], ◌∷◌, ◌++◌, count_by}
 use Rattle.std.specs.List.{list_all, list_any, flat_map}
 use Rattle.vx_isa.specs.declared.operation.Register.{Register}
 use Rattle.vx_isa.specs.declared.operation.Register.TheVariants.{General, Branch, Link}
@@ -8,7 +8,7 @@ use Rattle.vx_isa.specs.declared.operation.UnitKind.TheVariants.{Alu, Multiply, 
 use Rattle.vx_isa.specs.declared.operation.Operation.{Operation}
 use Rattle.vx_isa.specs.declared.operation.Operation.TheVariants.{Compute, Move, Select, Load, Store}
 use Rattle.vx_isa.specs.Numbers.{Numbers, is_machine, IsMachine}
-use Rattle.vx_isa.specs.Operations.{same, is_zero, is_general, cluster_of_register, cluster_of, read_of, reads_of, list_of, destination_of, unit_of, same_unit, is_control, is_observable}
+use Rattle.vx_isa.specs.Operations.{same, is_zero, is_general, cluster_of_register, cluster_of, read_of, reads_of, list_of, destination_of, unit_of, same_unit, is_control, is_lone, is_observable}
 
 -- the destinations of a word, in the order of its list, a register 0 included
 abbrev pub destinations : List Operation → List Register
@@ -46,8 +46,8 @@ is_in_file m Link = true
 abbrev pub is_bad_word : Numbers → List Operation → Bool
 is_bad_word m ops = is_twice (destinations ops) || not (list_all keeps_to_cluster ops) || not (list_all (is_in_file m) (operands ops ++ destinations ops))
 
--- a word fits where each cluster has the slots, units and ports for it, the machine has the copy paths, and at
--- most one control and one observable operation are there
+-- a word fits where each cluster has the slots, units and ports for it, the machine has the copy paths and the control
+-- places, and at most one observable operation is there
 
 abbrev pub count_on : ℕ → (Operation → Bool) → List Operation → ℕ
 count_on k p ops = count_by (λ op. (cluster_of op == k) && p op) ops
@@ -82,10 +82,14 @@ all_below (suc n) p = all_below n p && p n
 abbrev pub stands_on : Numbers → List Operation → Bool
 stands_on m ops = list_all (λ op. nat_lt (cluster_of op) m.clusters) ops && list_all (is_in_file m) (operands ops ++ destinations ops)
 
+-- at most as many control operations as the machine has branches; where there are two, both are `br` or `brf`
+abbrev pub fits_control : Numbers → List Operation → Bool
+fits_control m ops = nat_le (count_by is_control ops) m.branches && (nat_le (count_by is_control ops) 1 || list_all (λ op. not (is_lone op)) ops)
+
 abbrev pub fits : Numbers → List Operation → Bool
 fits m ops =
     is_machine m && stands_on m ops && all_below m.clusters (fits_cluster m ops)
-    && nat_le (count_by (is_of Copies) ops) m.copy_paths && nat_le (count_by is_control ops) 1 && nat_le (count_by is_observable ops) 1
+    && nat_le (count_by (is_of Copies) ops) m.copy_paths && fits_control m ops && nat_le (count_by is_observable ops) 1
 
 -- the same in words
 
@@ -110,7 +114,8 @@ pub record FitsMachine (m : Numbers) (ops : List Operation) : Type 0 where
   pub write_ports : (k : ℕ) → writes_on k ops ≤ has m k m.write_ports
   pub registers : All (IsInFile m) (operands ops ++ destinations ops)
   pub copies : count_by (is_of Copies) ops ≤ m.copy_paths
-  pub control : count_by is_control ops ≤ 1
+  pub control : count_by is_control ops ≤ m.branches
+  pub lone : (count_by is_control ops ≤ 1) ⊎ All (λ op. is_lone op ≡ false) ops
   pub observable : count_by is_observable ops ≤ 1
 
 -- the test means what the words say, at every machine and every word

@@ -230,9 +230,16 @@ start w input = record {
   asked = 0;
 }
 
+-- the machine that a program's words are issued by: words of version 1 have at most one branch each, on every machine
+abbrev pub branches_of : (version branches : ℕ) → ℕ
+branches_of version branches = if version == 1 then 1 else branches
+
+abbrev pub issuing_machine : WordProgram → Numbers → Numbers
+issuing_machine w m = record m { branches = branches_of w.version m.branches }
+
 -- at most so many words, from a state and from the start
 abbrev pub words_from : Numbers → List ℕ → WordProgram → ℕ → State → Outcome
 words_from m times w n s = run (step m times w) (λ t. t.out) n s
 
 abbrev pub words_run : Numbers → List ℕ → WordProgram → List ℤ → ℕ → Outcome
-words_run m times w input n = words_from m times w n (start w input)
+words_run m times w input n = words_from (issuing_machine w m) times w n (start w input)

@@ -1,4 +1,4 @@
--- A machine, as the numbers of its description. All counts but clusters and copy_paths are per cluster.
+-- A machine, as the numbers of its description. All counts but clusters, copy_paths and branches are per cluster.
 use Rattle.std.specs.Prelude.{◌≡◌, ℕ, ◌+◌, ◌*◌, Bool, ◌&&◌, nat_le, true, refl}
 
 pub record Numbers : Type 0 where
@@ -18,6 +18,8 @@ pub record Numbers : Type 0 where
   pub latency_load : ℕ
   pub latency_divide : ℕ
   pub latency_copy : ℕ
+  -- the branches of one word
+  pub branches : ℕ
 
 abbrev pub is_between : ℕ → ℕ → ℕ → Bool
 is_between low high n = nat_le low n && nat_le n high
@@ -30,6 +32,7 @@ is_machine m =
     && is_between 2 (2 * m.issue) m.read_ports && is_between 1 m.issue m.write_ports && is_between 1 8 m.copy_paths
     && is_between 1 16 m.latency_alu && is_between 1 16 m.latency_compare && is_between 1 16 m.latency_multiply
     && is_between 1 16 m.latency_load && is_between 1 16 m.latency_divide && is_between 1 16 m.latency_copy
+    && is_between 1 2 m.branches
 
 abbrev pub IsMachine : Numbers → Type 0
 IsMachine m = is_machine m ≡ true
@@ -53,6 +56,7 @@ vex n = record {
   latency_load = 3;
   latency_divide = 8;
   latency_copy = 1;
+  branches = 1;
 }
 
 -- a narrow machine: one operation a word
@@ -74,6 +78,7 @@ narrow = record {
   latency_load = 3;
   latency_divide = 8;
   latency_copy = 1;
+  branches = 1;
 }
 
 vex_is_machine : is_machine (vex 1) ≡ true

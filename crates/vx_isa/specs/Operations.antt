@@ -1,5 +1,5 @@
 -- What each operation names, which unit it takes and how long its result may take.
-use Rattle.std.specs.Prelude.{ℕ, Bool, true, false, ◌&&◌, ◌==◌, if◌then◌else◌, List, [], ◌∷◌, ◌++◌, Option, Some, None}
+use Rattle.std.specs.Prelude.{ℕ, Bool, true, false, ◌&&◌, not, ◌==◌, if◌then◌else◌, List, [], ◌∷◌, ◌++◌, Option, Some, None}
 use Rattle.vx_base.specs.declared.arithmetic.Code.{Code}
 use Rattle.vx_base.specs.declared.arithmetic.Code.TheVariants.{ToBranch, Mpylu, Mpyhs, Div, Rem}
 use Rattle.vx_isa.specs.declared.operation.Register.{Register}
@@ -170,6 +170,15 @@ is_observable op = false
 
 abbrev pub is_control : Operation → Bool
 is_control op = same_unit (unit_of op) Control
+
+-- `br` and `brf`
+abbrev pub is_branch : Operation → Bool
+is_branch (BranchOn t w p) = true
+is_branch op = false
+
+-- the control operations that no other one may stand beside: a goto, a call, a return and an end
+abbrev pub is_lone : Operation → Bool
+is_lone op = is_control op && not (is_branch op)
 
 -- cycles from the issue of an operation until its result has landed at the latest; 0 where it has none
 abbrev pub latency_of_code : Numbers → Code → ℕ

@@ -9,7 +9,7 @@ use Rattle.vx_isa.specs.declared.program.WordProgram.{WordProgram}
 use Rattle.vx_isa.specs.Numbers.{Numbers, IsMachine}
 use Rattle.vx_isa.specs.Operations.{is_zero, destination_of, is_call, latency_of}
 use Rattle.vx_isa.specs.Fits.{fits, operands, destinations}
-use Rattle.vx_isa.specs.Machine.{cycles_of, words_run}
+use Rattle.vx_isa.specs.Machine.{cycles_of, issuing_machine, words_run}
 use Rattle.vx_isa.specs.Strict.{Strict}
 
 -- where a word may lead from its place
@@ -58,9 +58,9 @@ NamesAt w p r = (word : Word) × WordAt w p word × Among r (destinations word.o
 abbrev pub NeverWritesEarly : Numbers → WordProgram → Type 0
 NeverWritesEarly m w = NeverEarlyFrom 0 (Leads w) (cycles_at w) (NamesAt w) (WritesAt m w)
 
--- every word fits, and on no path from the start does a word read a register early
+-- every word fits the machine that the version allows, and on no path from the start does a word read a register early
 pub record PathStrict (m : Numbers) (w : WordProgram) : Type 0 where
-  pub fit : (p : ℕ) (word : Word) → WordAt w p word → fits m word.ops ≡ true
+  pub fit : (p : ℕ) (word : Word) → WordAt w p word → fits (issuing_machine w m) word.ops ≡ true
   pub never_early : NeverReadsEarly m w
 
 -- the laws of paths, each the clause of a public function of this crate

@@ -71,14 +71,19 @@ abbrev pub is_start : (memory least : ℕ) → List (ℕ × ℤ) → Bool
 is_start memory least [] = true
 is_start memory least (p ∷ ps) = nat_le least p.0 && (p.0 % 4 == 0) && nat_lt p.0 memory && is_not_zero p.1 && is_start memory (p.0 + 1) ps
 
+-- the versions of the word text: of at most one branch a word, and of at most as many as the machine has
+abbrev pub is_version : ℕ → Bool
+is_version n = (n == 1) || (n == 2)
+
 abbrev pub is_sound : WordProgram → Bool
 is_sound w =
-    (w.memory % 4 == 0) && nat_le w.memory 134217728 && is_start w.memory 0 w.start
+    is_version w.version && (w.memory % 4 == 0) && nat_le w.memory 134217728 && is_start w.memory 0 w.start
     && list_all (is_sound_word (length w.words) (length w.texts)) w.words
 
 -- the same in words; that an operation has operands of its form stays the test above
 
 pub record IsSound (p : WordProgram) : Type 0 where
+  pub version : (p.version ≡ 1) ⊎ (p.version ≡ 2)
   pub memory : (p.memory % 4 ≡ 0) × (p.memory ≤ 134217728)
   pub start : All (λ s. (s.0 % 4 ≡ 0) × (s.0 < p.memory) × (s.1 ≢ pos 0)) p.start
   pub ascending : (i j : ℕ) (d : ℕ × ℤ) → i < j → j < length p.start → (slice_index_or p.start i d).0 < (slice_index_or p.start j d).0

@@ -1,4 +1,4 @@
--- No word exceeds the machine, and no register is read while a write to it is in flight, whenever within its
+-- No word exceeds the machine, by the version of the program, and no register is read while a write to it is in flight, whenever within its
 -- latency each write lands.
 use Rattle.std.specs.Prelude.{◌≡◌, ◌≢◌, ℕ, zero, suc, ℤ, true, false, List, [], Some, slice_get, All, Contains, FitsSigned}
 use Rattle.std.specs.Int.{w32}
@@ -9,7 +9,7 @@ use Rattle.vx_isa.specs.declared.program.WordProgram.{WordProgram}
 use Rattle.vx_isa.specs.Numbers.{Numbers}
 use Rattle.vx_isa.specs.Operations.{is_zero}
 use Rattle.vx_isa.specs.Fits.{fits, operands}
-use Rattle.vx_isa.specs.Machine.{Write, State, step, start}
+use Rattle.vx_isa.specs.Machine.{Write, State, step, start, issuing_machine}
 
 -- n words lead from s to t
 abbrev pub Reaches : Numbers → List ℕ → WordProgram → ℕ → State → State → Type 0
@@ -21,7 +21,7 @@ abbrev pub IsPending : State → Register → Type 0
 IsPending s r = (x : Write) × Contains s.flying x × (x.to ≡ r)
 
 pub record Strict (m : Numbers) (w : WordProgram) : Type 0 where
-  pub fit : (p : ℕ) (word : Word) → slice_get w.words p ≡ Some word → fits m word.ops ≡ true
+  pub fit : (p : ℕ) (word : Word) → slice_get w.words p ≡ Some word → fits (issuing_machine w m) word.ops ≡ true
   pub never_early : (times : List ℕ) (input : List ℤ) (n : ℕ) (s : State) (word : Word) (r : Register) → times ≢ [] →
-      All (FitsSigned w32) input → Reaches m times w n (start w input) s → slice_get w.words s.place ≡ Some word →
+      All (FitsSigned w32) input → Reaches (issuing_machine w m) times w n (start w input) s → slice_get w.words s.place ≡ Some word →
       Contains (operands word.ops) r → is_zero r ≡ false → IsPending s r → ⊥

@@ -6,13 +6,14 @@ ghost use Rattle.vx_isa.specs.Steady.{WordsAreSteady};
 ghost use Rattle.vx_isa.specs.Paths.{AnyTimingLaw, PathStrictLaw};
 
 /// A word fits a machine exactly where each cluster has slots, units, ports and registers for its operations, the
-/// machine has the copy paths, and at most one control and one observable operation are there.
+/// machine has the copy paths, at most as many control operations are there as it has branches, two of them both branches
+/// on a register, and at most one observable operation is there.
 #[tactic(auto, using(crate::proofs::FitsLaw::fits_in_words))]
 pub fn fits_law()
     ensures { FitsInWords }
 {}
 
-/// A program is sound exactly where its memory is a multiple of 4 and small enough, its start list ascends over
+/// A program is sound exactly where its version is 1 or 2, its memory is a multiple of 4 and small enough, its start list ascends over
 /// words of the memory and holds no 0, an empty time is short and alone in its word, and each operation has
 /// operands of its form and names what is there.
 #[tactic(auto, using(crate::proofs::SoundLaw::sound_in_words))]

@@ -4,7 +4,7 @@
 ghost use Rattle.std.specs.Prelude.{◌≡◌};
 ghost use Rattle.std.specs.List.{flat_map};
 ghost use Rattle.vx_isa.specs.Fits.{keeps_to_cluster};
-ghost use Rattle.vx_isa.specs.Operations.{same, is_zero, is_general, cluster_of_register, cluster_of, list_of, read_of, reads_of, destination_of, comes_from, unit_of_code as unit_by_code, unit_of, is_observable, is_control};
+ghost use Rattle.vx_isa.specs.Operations.{same, is_zero, is_general, cluster_of_register, cluster_of, list_of, read_of, reads_of, destination_of, comes_from, unit_of_code as unit_by_code, unit_of, is_observable, is_control, is_branch, is_lone};
 
 use vx_base::arithmetic::Code;
 use vx_base::outcome::Trap;
@@ -282,6 +282,20 @@ impl Operation {
         ensures { result ≡ is_control self.now }
     {
         matches!(self.unit(), UnitKind::Control)
+    }
+
+    /// Whether it is a branch on a register, `br` or `brf`.
+    pub fn is_branch(&self) -> bool
+        ensures { result ≡ is_branch self.now }
+    {
+        matches!(self, Operation::BranchOn { .. })
+    }
+
+    /// Whether it is a control operation that no other one may stand beside in a word: a goto, a call, a return or an end.
+    pub fn is_lone(&self) -> bool
+        ensures { result ≡ is_lone self.now }
+    {
+        self.is_control() && !self.is_branch()
     }
 
     /// Whether it reads the input or prints.

@@ -15,6 +15,9 @@ pub struct Word {
 /// A program of words. It starts at word 0.
 #[derive(Drop)]
 pub struct WordProgram {
+    /// The version of the word text: 1, whose words have at most one branch each on every machine, or 2, whose words have at
+    /// most as many as the machine.
+    pub version: u32,
     /// The bytes of the memory.
     pub memory: u32,
     /// The words of the memory that do not start as 0: address and number, addresses ascending.

@@ -3,7 +3,7 @@
 
 ghost use Rattle.std.specs.Prelude.{◌≡◌, ◌↔◌, true, length};
 ghost use Rattle.std.specs.List.{list_all};
-ghost use Rattle.vx_isa.specs.Sound.{can_name_cluster, can_name, can_name_branch, can_spell, is_destination, is_sound_operation, is_sound_word, is_start, is_sound};
+ghost use Rattle.vx_isa.specs.Sound.{can_name_cluster, can_name, can_name_branch, can_spell, is_destination, is_sound_operation, is_sound_word, is_start, is_version, is_sound};
 
 use crate::operation::{BranchRegister, GeneralRegister, Operation, Register, Source};
 use crate::program::{Word, WordProgram};
@@ -12,7 +12,7 @@ use vx_base::arithmetic::Code;
 /// The greatest memory of a program, in bytes.
 pub const GREATEST_MEMORY: u32 = 134_217_728;
 
-/// Whether the program is one that the word text can spell: every target, text number and start address that is
+/// Whether the program is one that the word text can spell: the version is 1 or 2, every target, text number and start address that is
 /// named is there, the start list is ascending and without zeros, the memory is a multiple of 4 and at most
 /// `GREATEST_MEMORY` bytes, an empty time is at most 255 cycles and stands in a word without operations, and each
 /// operation has operands of its form. It takes no memory.
@@ -21,10 +21,17 @@ pub fn sound(program: &WordProgram) -> bool
 {
     let words = program.words.len();
     let texts = program.texts.len();
-    program.memory % 4 == 0
+    is_version(program.version)
+        && program.memory % 4 == 0
         && program.memory <= GREATEST_MEMORY
         && is_start(program.memory, program.start.as_slice())
         && are_sound_words(program.words.as_slice(), words, texts)
+}
+
+fn is_version(version: u32) -> bool
+    ensures { result ≡ is_version version }
+{
+    version == 1 || version == 2
 }
 
 /// Whether the addresses are multiples of 4, ascend and lie in the memory, and no number is 0.
