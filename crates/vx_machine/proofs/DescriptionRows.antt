@@ -55,3 +55,21 @@ past_64_bits = refl
 mark : of_table (parse_document (239 ∷ 187 ∷ 191 ∷ codes "clusters = 5\n")) ≡ Err (Bad 3 1)
 unfolding toml_on_literals names
 mark = refl
+
+-- of the branches nothing may be said, and they are looked at last
+
+two_branches : of_table (parse_document (codes "branches = 2\nclusters = 4\nissue = 4\n" ++ rest)) ≡ Ok (record (vex 4) { branches = 2 })
+unfolding toml_on_literals names
+two_branches = refl
+
+three_branches : of_table (parse_document (codes "branches = 3\nclusters = 4\nissue = 4\n" ++ rest)) ≡ Err (Bad 3 17)
+unfolding toml_on_literals names
+three_branches = refl
+
+no_branches : of_table (parse_document (codes "branches = 0\nclusters = 4\nissue = 4\n" ++ rest)) ≡ Err (Bad 3 17)
+unfolding toml_on_literals names
+no_branches = refl
+
+branches_last : of_table (parse_document (codes "branches = 3\nclusters = 4\n" ++ rest)) ≡ Err (Bad 2 2)
+unfolding toml_on_literals names
+branches_last = refl

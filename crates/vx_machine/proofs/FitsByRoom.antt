@@ -1,5 +1,5 @@
 -- Operations that need no more than items with room fit.
-use Rattle.std.proofs.Common.{◌≡◌, ℕ, ◌≤◌, All, Bool, ◌&&◌, ◌==◌, true, false, if◌then◌else◌, cond, List, [], ◌∷◌, ◌++◌, ap, sym, ◌∙◌, refl, count_by, arith}
+use Rattle.std.proofs.Common.{◌≡◌, ℕ, ◌≤◌, All, Bool, ◌&&◌, ◌==◌, ◌⊎◌, ⊎_elim, inl, inr, true, false, if◌then◌else◌, cond, List, [], ◌∷◌, ◌++◌, ap, sym, ◌∙◌, refl, count_by, arith}
 use Rattle.std.specs.List.{flat_map}
 use Rattle.vx_base.specs.declared.arithmetic.Code.{Code}
 use Rattle.vx_base.specs.declared.arithmetic.Code.TheVariants.{Add, Sub, And, Or, Xor, Shl, Shr, Shru, Sh2add, Max, Min, Mov, ToGeneral, ToBranch, Mpylu, Mpyhs, Div, Rem}
@@ -10,7 +10,7 @@ use Rattle.vx_isa.specs.declared.operation.UnitKind.{UnitKind}
 use Rattle.vx_isa.specs.declared.operation.UnitKind.TheVariants.{Alu, Multiply, Memory, Copies, Control}
 use Rattle.vx_isa.specs.declared.operation.Operation.{Operation}
 use Rattle.vx_isa.specs.Numbers.{Numbers}
-use Rattle.vx_isa.specs.Operations.{cluster_of, reads_of, list_of, destination_of, unit_of_code, same_unit, is_control, is_observable}
+use Rattle.vx_isa.specs.Operations.{cluster_of, reads_of, list_of, destination_of, unit_of_code, same_unit, is_control, is_lone, is_observable}
 use Rattle.vx_isa.specs.Fits.{operands, destinations, count_on, is_of, takes_read_port, takes_write_port, reads_on, writes_on, IsInFile, FitsMachine}
 use Rattle.vx_isa.proofs.Lists.{count_by-cons, count_by-append}
 use Rattle.vx_machine.specs.declared.items.Item.{Item}
@@ -23,7 +23,7 @@ use Rattle.vx_machine.proofs.RoomLaw.{room_in_words}
 
 -- a split, and no operation, needs the control place
 
-no_control : (code : Code) → same_unit (unit_of_code code) Control ≡ false
+pub no_control : (code : Code) → same_unit (unit_of_code code) Control ≡ false
 no_control Add = refl
 no_control Sub = refl
 no_control And = refl
@@ -43,7 +43,7 @@ no_control Mpyhs = refl
 no_control Div = refl
 no_control Rem = refl
 
-no_control_op : (op : Op) → same_unit (unit_of_op op) Control ≡ false
+pub no_control_op : (op : Op) → same_unit (unit_of_op op) Control ≡ false
 no_control_op (Compute code v a b) = no_control code
 no_control_op (Select v p a b) = refl
 no_control_op (Place v a i) = refl
@@ -57,7 +57,7 @@ no_control_op (Across v u) = refl
 no_control_op (Base v a x) = refl
 no_control_op (PlaceIn v a u i) = refl
 
-split_is_control : (item : Item) → same_unit (unit_of_item item) Control ≡ is_split item
+pub split_is_control : (item : Item) → same_unit (unit_of_item item) Control ≡ is_split item
 split_is_control (Plain op) = no_control_op op
 split_is_control (Split p) = refl
 
@@ -115,9 +115,13 @@ at_most a b n same le = omega arith
 within : (a b n : ℕ) → a ≤ b → b ≤ n → a ≤ n
 within a b n less le = omega arith
 
+at_most_one : (a n : ℕ) → a ≤ n → n ≡ 1 → a ≤ 1
+at_most_one a n le one = omega arith
+
 by_words : (m : Numbers) (homes : Homes) (xs : List ClusteredItem) (ops : List Operation) → HasRoom m homes xs → NeedsEach homes xs ops
+    → (m.branches ≡ 1) ⊎ All (λ op. is_lone op ≡ false) ops
     → All (IsInFile m) (operands ops ++ destinations ops) → FitsMachine m ops
-by_words m homes xs ops r n files = record {
+by_words m homes xs ops r n none files = let control = at_most _ _ _ (count_same homes is_control (λ (x : ClusteredItem). is_split x.item) xs ops (λ x op h. unit_same homes Control x op h ∙ split_is_control x.item) n) r.splits in record {
   ranges = r.ranges;
   slots = λ k. at_most _ _ _ (count_on_same homes k (λ op. true) (λ item. true) xs ops (λ x op h. refl) n) (r.slots k);
   alus = λ k. at_most _ _ _ (count_on_same homes k (is_of Alu) (needs Alu) xs ops (unit_same homes Alu) n) (r.alus k);
@@ -127,9 +131,10 @@ by_words m homes xs ops r n files = record {
   write_ports = λ k. within (writes_on k ops) (writes_at k xs) _ (writes_less homes k xs ops n) (r.write_ports k);
   registers = files;
   copies = at_most _ _ _ (count_same homes (is_of Copies) (λ (x : ClusteredItem). needs Copies x.item) xs ops (unit_same homes Copies) n) r.copies;
-  control = at_most _ _ _ (count_same homes is_control (λ (x : ClusteredItem). is_split x.item) xs ops (λ x op h. unit_same homes Control x op h ∙ split_is_control x.item) n) r.splits;
+  control = control;
+  lone = ⊎_elim (λ one. inl (at_most_one (count_by is_control ops) m.branches control one)) (λ few. inr few) none;
   observable = at_most _ _ _ (count_same homes is_observable (λ (x : ClusteredItem). is_observable_item x.item) xs ops (λ x op h. h.observable) n) r.observable;
 }
 
 pub fits_by_room : FitsByRoom
-fits_by_room m homes xs ops room n files = by_words m homes xs ops ((room_in_words m homes xs).0 room) n files
+fits_by_room m homes xs ops room n none files = by_words m homes xs ops ((room_in_words m homes xs).0 room) n none files

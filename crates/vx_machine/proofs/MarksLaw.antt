@@ -86,7 +86,7 @@ at_most low n top h = leb-true n top (and_parts (nat_le low n) (nat_le n top) h)
 
 bounds : (m : Numbers) → IsMachine m → Bounds m
 bounds m h =
-    let seven = front _ _ (front _ _ (front _ _ (front _ _ (front _ _ (front _ _ (front _ _ (front _ _ (front _ _ h)))))))) in
+    let seven = front _ _ (front _ _ (front _ _ (front _ _ (front _ _ (front _ _ (front _ _ (front _ _ (front _ _ (front _ _ h))))))))) in
     let (six, branch) = and_parts _ _ seven in
     let (five, general) = and_parts _ _ six in
     let one = front _ _ (front _ _ (front _ _ (front _ _ five))) in

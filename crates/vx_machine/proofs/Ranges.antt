@@ -9,7 +9,7 @@ use Rattle.vx_isa.specs.Numbers.{Numbers, is_between, is_machine}
 use Rattle.vx_machine.specs.declared.description.Field.{Field}
 use Rattle.vx_machine.specs.declared.description.MachineFault.{MachineFault}
 use Rattle.vx_machine.specs.declared.description.MachineFault.TheVariants.{Bad}
-use Rattle.vx_machine.specs.Descriptions.{name_of, fields, is_field, whole, number_at, has_unknown, is_within, fault_of, fault_or, first_fault, machine_fault, numbers_of}
+use Rattle.vx_machine.specs.Descriptions.{name_of, fields, is_field, branches_field, whole, whole_or_one, number_at, branches_at, has_unknown, is_within, fault_of, fault_or, fault_if_there, first_fault, machine_fault, numbers_of}
 
 -- a field without a fault has an integer of its range
 
@@ -42,7 +42,22 @@ known t true o h = cc
 known t false o h = h
 
 pub fields_pass : (t : Members) → machine_fault t ≡ None → list_all (passes t) (fields (number_at t 2)) ≡ true
-fields_pass t h = all_pass t (fields (number_at t 2)) (known t (has_unknown t) _ h)
+fields_pass t h = all_pass t (fields (number_at t 2)) (first_none _ _ (known t (has_unknown t) _ h)).0
+
+-- the branches too
+
+branches_pass_at : (o : Option Data) → fault_if_there branches_field o ≡ None → is_between 1 2 (whole_or_one o) ≡ true
+branches_pass_at None h = refl
+branches_pass_at (Some d) h = in_range branches_field (as_integer d) (no_fault branches_field (Some d) h)
+
+pub last_fault : (t : Members) → machine_fault t ≡ None → fault_if_there branches_field (get_member (name_of 17) t) ≡ None
+last_fault t h = (first_none _ _ (known t (has_unknown t) _ h)).1
+
+pub branches_pass : (t : Members) → machine_fault t ≡ None → is_between 1 2 (branches_at t) ≡ true
+branches_pass t h = branches_pass_at (get_member (name_of 17) t) (last_fault t h)
+
+pub few_branches : (t : Members) → machine_fault t ≡ None → branches_at t ≤ 2
+few_branches t h = leb-true _ _ (and_parts (nat_le 1 (branches_at t)) (nat_le (branches_at t) 2) (branches_pass t h)).1
 
 -- the same tests, grouped to the left
 abbrev pub all_left : Bool → List Bool → Bool
@@ -57,7 +72,7 @@ left_all a (b ∷ bs) h =
     left_all (a && b) bs (both_true (both_true first second) rest)
 
 pub in_ranges : (t : Members) → machine_fault t ≡ None → is_machine (numbers_of t) ≡ true
-in_ranges t h = left_all (is_between 1 4 (number_at t 1)) (map (passes t) (drop 1 (fields (number_at t 2)))) (fields_pass t h)
+in_ranges t h = both_true (left_all (is_between 1 4 (number_at t 1)) (map (passes t) (drop 1 (fields (number_at t 2)))) (fields_pass t h)) (branches_pass t h)
 
 -- and no number is over 64
 

@@ -1,5 +1,5 @@
 -- What is read, in words.
-use Rattle.std.proofs.Common.{◌≡◌, ℕ, pos, negsuc, Bool, true, false, ◌&&◌, ◌||◌, not, if◌then◌else◌, List, [], ◌∷◌, Option, Some, None, Ok, Contains, Ordering, Less, Equal, Greater, nat_cmp, is_eq, option_and_then, map, drop, refl, sym, subst, ap, ◌∙◌}
+use Rattle.std.proofs.Common.{◌≡◌, ℕ, pos, negsuc, Bool, true, false, ◌&&◌, ◌||◌, not, if◌then◌else◌, List, [], ◌∷◌, Option, Some, None, Ok, Contains, Ordering, Less, Equal, Greater, nat_cmp, is_eq, option_and_then, map, drop, ◌⊎◌, inl, inr, refl, sym, subst, ap, ◌∙◌}
 use Rattle.std.specs.List.{list_all, list_any, AllByRecursion}
 use Rattle.std.specs.Str.{bytes_eq}
 use Rattle.std.specs.Ordering.{match_ordering}
@@ -15,8 +15,8 @@ use Rattle.vx_isa.specs.Numbers.{Numbers, is_between, is_machine}
 use Rattle.vx_machine.specs.declared.description.Field.{Field}
 use Rattle.vx_machine.specs.declared.description.MachineFault.{MachineFault}
 use Rattle.vx_machine.specs.declared.description.MachineFault.TheVariants.{Bad}
-use Rattle.vx_machine.specs.Descriptions.{names, name_of, fields, whole, number_at, has_unknown, is_within, fault_of, first_fault, machine_fault, numbers_of, numbers_unless, of_table, table_of, Describes, ReadsInWords}
-use Rattle.vx_machine.proofs.Ranges.{passes, first_none, known, in_ranges, all_left}
+use Rattle.vx_machine.specs.Descriptions.{names, name_of, fields, branches_field, whole, whole_or_one, number_at, branches_at, has_unknown, is_within, fault_of, fault_if_there, first_fault, machine_fault, numbers_of, numbers_unless, of_table, table_of, Describes, ReadsInWords}
+use Rattle.vx_machine.proofs.Ranges.{passes, first_none, known, in_ranges, last_fault, all_left}
 
 -- the keys
 
@@ -92,7 +92,7 @@ right_all a (b ∷ bs) h =
     both_true first (both_true second rest)
 
 fields_pass_if : (t : Members) → is_machine (numbers_of t) ≡ true → list_all (passes t) (fields (number_at t 2)) ≡ true
-fields_pass_if t h = right_all (is_between 1 4 (number_at t 1)) (map (passes t) (drop 1 (fields (number_at t 2)))) h
+fields_pass_if t h = right_all (is_between 1 4 (number_at t 1)) (map (passes t) (drop 1 (fields (number_at t 2)))) (and_parts _ (is_between 1 2 (branches_at t)) h).0
 
 number_if : (t : Members) (n k : ℕ) → get_member (name_of n) t ≡ Some (integer (pos k)) → (number_at t n ≡ k) × Stands t n
 number_if t n k h =
@@ -105,10 +105,18 @@ all_known : (b : Bool) (o : Option MachineFault) → (if b then Some (Bad 4 0) e
 all_known true o h = cc
 all_known false o h = refl
 
+branches_stand : (o : Option Data) → fault_if_there branches_field o ≡ None → (o ≡ Some (integer (pos (whole_or_one o)))) ⊎ ((o ≡ None) × (whole_or_one o ≡ 1))
+branches_stand None h = inr (refl, refl)
+branches_stand (Some d) h = inl (stands_if branches_field (Some d) h)
+
+branches_if : (o : Option Data) (n : ℕ) → is_between 1 2 n ≡ true → (o ≡ Some (integer (pos n))) ⊎ ((o ≡ None) × (n ≡ 1)) → (whole_or_one o ≡ n) × (fault_if_there branches_field o ≡ None)
+branches_if o n within (inl there) = (ap whole_or_one there, ap (fault_if_there branches_field) there ∙ rw within refl)
+branches_if o n within (inr (absent, one)) = (ap whole_or_one absent ∙ sym one, ap (fault_if_there branches_field) absent)
+
 describes : (t : Members) → machine_fault t ≡ None → Describes t (numbers_of t)
 unfolding names
 describes t h =
-    let s : AllByRecursion (λ f. Stands t f.number) (fields (number_at t 2)) = all_stand t (fields (number_at t 2)) (known t (has_unknown t) _ h) in
+    let s : AllByRecursion (λ f. Stands t f.number) (fields (number_at t 2)) = all_stand t (fields (number_at t 2)) (first_none _ _ (known t (has_unknown t) _ h)).0 in
     record {
       clusters = s.0;
       issue = s.1.0;
@@ -126,6 +134,7 @@ describes t h =
       latency_load = s.1.1.1.1.1.1.1.1.1.1.1.1.1.0;
       latency_divide = s.1.1.1.1.1.1.1.1.1.1.1.1.1.1.0;
       latency_copy = s.1.1.1.1.1.1.1.1.1.1.1.1.1.1.1.0;
+      branches = branches_stand (get_member (name_of 17) t) (last_fault t h);
       ranges = in_ranges t h;
       keys = keys_known t (all_known (has_unknown t) _ h);
     }
@@ -149,11 +158,12 @@ described t m d =
     let n14 = number_if t 14 m.latency_load d.latency_load in
     let n15 = number_if t 15 m.latency_divide d.latency_divide in
     let n16 = number_if t 16 m.latency_copy d.latency_copy in
-    let copy : Numbers = record { clusters = m.clusters; issue = m.issue; alus = m.alus; multipliers = m.multipliers; memory_units = m.memory_units; registers = m.registers; branch_registers = m.branch_registers; read_ports = m.read_ports; write_ports = m.write_ports; copy_paths = m.copy_paths; latency_alu = m.latency_alu; latency_compare = m.latency_compare; latency_multiply = m.latency_multiply; latency_load = m.latency_load; latency_divide = m.latency_divide; latency_copy = m.latency_copy } in
+    let copy : Numbers = record { clusters = m.clusters; issue = m.issue; alus = m.alus; multipliers = m.multipliers; memory_units = m.memory_units; registers = m.registers; branch_registers = m.branch_registers; read_ports = m.read_ports; write_ports = m.write_ports; copy_paths = m.copy_paths; latency_alu = m.latency_alu; latency_compare = m.latency_compare; latency_multiply = m.latency_multiply; latency_load = m.latency_load; latency_divide = m.latency_divide; latency_copy = m.latency_copy; branches = m.branches } in
+    let n17 = branches_if (get_member (name_of 17) t) m.branches (and_parts _ (is_between 1 2 m.branches) d.ranges).1 d.branches in
     let same : numbers_of t ≡ copy = cc in
     let ranges : is_machine (numbers_of t) ≡ true = subst (λ (n : Numbers). is_machine n ≡ true) (sym same) d.ranges in
     let stand : AllByRecursion (λ f. Stands t f.number) (fields (number_at t 2)) = (n1.1, (n2.1, (n3.1, (n4.1, (n5.1, (n6.1, (n7.1, (n8.1, (n9.1, (n10.1, (n11.1, (n12.1, (n13.1, (n14.1, (n15.1, (n16.1, tt)))))))))))))))) in
-    (rw (none_unknown t d.keys) (no_fault_if t (fields (number_at t 2)) stand (fields_pass_if t ranges)), same)
+    (rw (none_unknown t d.keys, no_fault_if t (fields (number_at t 2)) stand (fields_pass_if t ranges)) n17.1, same)
 
 no_why : (o : Option MachineFault) (n m : Numbers) → numbers_unless o n ≡ Ok m → (o ≡ None) × (n ≡ m)
 no_why None n m h = (refl, cc)

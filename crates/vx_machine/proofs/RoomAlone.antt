@@ -105,6 +105,6 @@ room_alone m homes x ranges well =
       two = well;
       three = all_below-holds (has_room_at m homes (x ∷ [])) m.clusters (λ k below. alone_at m homes x k l);
       four = alone_in (needs Copies) x m.copy_paths l.copy_paths.least;
-      five = alone_in is_split x 1 (omega arith);
+      five = alone_in is_split x m.branches l.branches.least;
       six = alone_in is_observable_item x 1 (omega arith);
     })

@@ -78,7 +78,7 @@ RoomAt m homes xs k =
 abbrev RoomIn : Numbers → Homes → List ClusteredItem → Type 0
 RoomIn m homes xs =
     Six (is_machine m) (stand_well m homes xs) (all_below m.clusters (has_room_at m homes xs))
-    (nat_le (count_in (needs Copies) xs) m.copy_paths) (nat_le (count_in is_split xs) 1) (nat_le (count_in is_observable_item xs) 1)
+    (nat_le (count_in (needs Copies) xs) m.copy_paths) (nat_le (count_in is_split xs) m.branches) (nat_le (count_in is_observable_item xs) 1)
 
 at_each : (m : Numbers) (homes : Homes) (xs : List ClusteredItem) (k : ℕ) → all_below m.clusters (has_room_at m homes xs) ≡ true → k < m.clusters → RoomAt m homes xs k
 at_each m homes xs k all below = six_parts _ _ _ _ _ _ (all_below-at (has_room_at m homes xs) m.clusters k all below)
@@ -179,7 +179,7 @@ part m homes keep xs s = record {
   two = part_stands m homes keep xs s.two;
   three = all_below-holds (has_room_at m homes (filter keep xs)) m.clusters (λ k below. six_together _ _ _ _ _ _ (part_at m homes keep xs k (at_each m homes xs k s.three below)));
   four = at_most _ _ m.copy_paths (count_by-filter _ keep xs) s.four;
-  five = at_most _ _ 1 (count_by-filter _ keep xs) s.five;
+  five = at_most _ _ m.branches (count_by-filter _ keep xs) s.five;
   six = at_most _ _ 1 (count_by-filter _ keep xs) s.six;
 }
 

@@ -75,6 +75,17 @@ printing_elsewhere = refl
 two_splits : has_room (vex 1) homes (split 0 ∷ split 0 ∷ []) ≡ false
 two_splits = refl
 
+-- a machine of two branches has room for two splits and no more
+
+abbrev of_two : Numbers
+of_two = record (vex 1) { branches = 2 }
+
+two_splits_of_two : has_room of_two homes (split 0 ∷ split 0 ∷ []) ≡ true
+two_splits_of_two = refl
+
+three_splits_of_two : has_room of_two homes (split 0 ∷ split 0 ∷ split 0 ∷ []) ≡ false
+three_splits_of_two = refl
+
 two_printings : has_room (two_ports 1) homes (printing 0 ∷ printing 0 ∷ []) ≡ false
 two_printings = refl
 

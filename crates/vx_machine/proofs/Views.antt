@@ -15,16 +15,16 @@ pub has_unknown_view : (es : List Entry) → has_unknown (members_view es) ≡ l
 has_unknown_view [] = refl
 has_unknown_view (e ∷ es) = ap (λ b. not (list_any (bytes_eq (string_bytes e.0)) names) || b) (has_unknown_view es)
 
-names-length : length names ≡ 16
+names-length : length names ≡ 17
 unfolding names
 names-length = refl
 
-pub is_name_more : (key : List ℕ) (i : ℕ) → i < 16 → list_any (bytes_eq key) (drop i names) ≡ (bytes_eq key (name_of (i + 1)) || list_any (bytes_eq key) (drop (i + 1) names))
+pub is_name_more : (key : List ℕ) (i : ℕ) → i < 17 → list_any (bytes_eq key) (drop i names) ≡ (bytes_eq key (name_of (i + 1)) || list_any (bytes_eq key) (drop (i + 1) names))
 is_name_more key i h =
     let within : i < length names = omega (arith, names-length) in
     ap (list_any (bytes_eq key)) (drop_more names i [] within) ∙ rw add-one
 
-pub is_name_end : (key : List ℕ) (i : ℕ) → 16 ≤ i → list_any (bytes_eq key) (drop i names) ≡ false
+pub is_name_end : (key : List ℕ) (i : ℕ) → 17 ≤ i → list_any (bytes_eq key) (drop i names) ≡ false
 is_name_end key i h = ap (list_any (bytes_eq key)) (drop_all i names (omega (arith, names-length)))
 
 -- the table of a description

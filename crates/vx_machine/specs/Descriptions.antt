@@ -1,5 +1,6 @@
--- How a description of a machine is read: a TOML table with every field as an integer at its top level.
-use Rattle.std.specs.Prelude.{◌≡◌, ◌↔◌, Contains, ℕ, zero, suc, ◌+◌, ◌*◌, ℤ, pos, Bool, false, ◌||◌, not, ◌==◌, if◌then◌else◌, List, [], ◌∷◌, Option, Some, None, Result, Ok, Err, codes, option_and_then, slice_index_or}
+-- How a description of a machine is read: a TOML table with every field as an integer at its top level. The last field may be
+-- absent.
+use Rattle.std.specs.Prelude.{◌≡◌, ◌↔◌, ◌⊎◌, Contains, ℕ, zero, suc, ◌+◌, ◌*◌, ℤ, pos, Bool, false, ◌||◌, not, ◌==◌, if◌then◌else◌, List, [], ◌∷◌, Option, Some, None, Result, Ok, Err, codes, option_and_then, slice_index_or}
 use Rattle.std.specs.List.{list_any}
 use Rattle.std.specs.Str.{bytes_eq, is_utf8}
 use Rattle.toml.specs.Data.{Data, integer, as_integer, Members, no_members, member, get_member}
@@ -15,7 +16,7 @@ unfoldable pub names : List (List ℕ)
 names =
     codes "clusters" ∷ codes "issue" ∷ codes "alus" ∷ codes "multipliers" ∷ codes "memory_units" ∷ codes "registers"
     ∷ codes "branch_registers" ∷ codes "read_ports" ∷ codes "write_ports" ∷ codes "copy_paths"
-    ∷ codes "latency_alu" ∷ codes "latency_compare" ∷ codes "latency_multiply" ∷ codes "latency_load" ∷ codes "latency_divide" ∷ codes "latency_copy" ∷ []
+    ∷ codes "latency_alu" ∷ codes "latency_compare" ∷ codes "latency_multiply" ∷ codes "latency_load" ∷ codes "latency_divide" ∷ codes "latency_copy" ∷ codes "branches" ∷ []
 
 abbrev pub name_of : ℕ → List ℕ
 name_of zero = []
@@ -24,7 +25,7 @@ name_of (suc n) = slice_index_or names n []
 abbrev pub field : ℕ → ℕ → ℕ → Field
 field number least greatest = record { number = number; least = least; greatest = greatest }
 
--- the range of each field; three of them are counted from the issue slots
+-- the range of each field that must be there; three of them are counted from the issue slots
 abbrev pub fields : (issue : ℕ) → List Field
 fields issue =
     field 1 1 4
@@ -44,7 +45,11 @@ fields issue =
     ∷ field 15 1 16
     ∷ field 16 1 16 ∷ []
 
--- some field has this number
+-- the field that may be absent
+abbrev pub branches_field : Field
+branches_field = field 17 1 2
+
+-- some field that must be there has this number
 abbrev pub is_field : ℕ → Bool
 is_field n = list_any (λ f. f.number == n) (fields 4)
 
@@ -62,8 +67,16 @@ whole z = 0
 abbrev pub number_at : Members → ℕ → ℕ
 number_at t n = whole (option_and_then as_integer (get_member (name_of n) t))
 
+-- the branches of a word: 1 where nothing is said of them
+abbrev pub whole_or_one : Option Data → ℕ
+whole_or_one None = 1
+whole_or_one (Some d) = whole (as_integer d)
+
+abbrev pub branches_at : Members → ℕ
+branches_at t = whole_or_one (get_member (name_of 17) t)
+
 -- what is wrong with a description: 4 where a key is no field, else for the first field that has a fault 2 where
--- it is missing, and 3 where no integer of its range stands there
+-- it is missing, and 3 where no integer of its range stands there; the field that may be absent is looked at last
 
 abbrev pub has_unknown : Members → Bool
 has_unknown no_members = false
@@ -85,8 +98,14 @@ abbrev pub first_fault : Members → List Field → Option MachineFault
 first_fault t [] = None
 first_fault t (f ∷ fs) = fault_or (fault_of f (get_member (name_of f.number) t)) (first_fault t fs)
 
+abbrev pub fault_if_there : Field → Option Data → Option MachineFault
+fault_if_there f None = None
+fault_if_there f (Some d) = fault_of f (Some d)
+
 abbrev pub machine_fault : Members → Option MachineFault
-machine_fault t = if has_unknown t then Some (Bad 4 0) else first_fault t (fields (number_at t 2))
+machine_fault t =
+    if has_unknown t then Some (Bad 4 0)
+    else fault_or (first_fault t (fields (number_at t 2))) (fault_if_there branches_field (get_member (name_of 17) t))
 
 -- the machine that a description gives
 
@@ -108,6 +127,7 @@ numbers_of t = record {
   latency_load = number_at t 14;
   latency_divide = number_at t 15;
   latency_copy = number_at t 16;
+  branches = branches_at t;
 }
 
 abbrev pub numbers_unless : Option MachineFault → Numbers → Result Numbers MachineFault
@@ -121,7 +141,8 @@ of_table (Some t) = numbers_unless (machine_fault t) (numbers_of t)
 abbrev pub reading : List ℕ → Result Numbers MachineFault
 reading bytes = of_table (table_of bytes)
 
--- the same in words: at each field stands an integer of its range, and no other key is there
+-- the same in words: at each field stands an integer of its range, but that nothing may be said of the branches, which are 1
+-- then, and no other key is there
 
 pub record Describes (t : Members) (m : Numbers) : Type 0 where
   pub clusters : get_member (codes "clusters") t ≡ Some (integer (pos m.clusters))
@@ -140,6 +161,7 @@ pub record Describes (t : Members) (m : Numbers) : Type 0 where
   pub latency_load : get_member (codes "latency_load") t ≡ Some (integer (pos m.latency_load))
   pub latency_divide : get_member (codes "latency_divide") t ≡ Some (integer (pos m.latency_divide))
   pub latency_copy : get_member (codes "latency_copy") t ≡ Some (integer (pos m.latency_copy))
+  pub branches : (get_member (codes "branches") t ≡ Some (integer (pos m.branches))) ⊎ ((get_member (codes "branches") t ≡ None) × (m.branches ≡ 1))
   pub ranges : IsMachine m
   pub keys : (key : List ℕ) (d : Data) → get_member key t ≡ Some d → Contains names key
 

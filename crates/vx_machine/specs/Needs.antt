@@ -1,9 +1,9 @@
 -- When operations on registers need no more of a machine than items on values.
-use Rattle.std.specs.Prelude.{◌≡◌, ◌≤◌, All, ℕ, true, ◌&&◌, ◌==◌, if◌then◌else◌, List, [], ◌∷◌, ◌++◌, count_by}
+use Rattle.std.specs.Prelude.{◌≡◌, ◌⊎◌, ◌≤◌, All, ℕ, true, false, ◌&&◌, ◌==◌, if◌then◌else◌, List, [], ◌∷◌, ◌++◌, count_by}
 use Rattle.vx_flow.specs.declared.trace.Homes.{Homes}
 use Rattle.vx_isa.specs.declared.operation.Operation.{Operation}
 use Rattle.vx_isa.specs.Numbers.{Numbers}
-use Rattle.vx_isa.specs.Operations.{cluster_of, reads_of, list_of, destination_of, unit_of, is_observable}
+use Rattle.vx_isa.specs.Operations.{cluster_of, reads_of, list_of, destination_of, unit_of, is_lone, is_observable}
 use Rattle.vx_isa.specs.Fits.{operands, destinations, takes_read_port, takes_write_port, IsInFile, FitsMachine}
 use Rattle.vx_machine.specs.declared.items.ClusteredItem.{ClusteredItem}
 use Rattle.vx_machine.specs.Items.{unit_of_item, is_observable_item, writes_general}
@@ -23,8 +23,9 @@ NeedsEach homes [] [] = Unit {0}
 NeedsEach homes (x ∷ xs) (op ∷ ops) = Needs homes x op × NeedsEach homes xs ops
 NeedsEach homes xs ops = ⊥
 
--- a word of such operations fits where the items have room and the registers are there
+-- a word of such operations fits where the items have room and the registers are there, and on a machine of two branches where no
+-- control operation but branches is among them
 abbrev pub FitsByRoom : Type 0
 FitsByRoom =
-    (m : Numbers) (homes : Homes) (xs : List ClusteredItem) (ops : List Operation) → has_room m homes xs ≡ true → NeedsEach homes xs ops →
+    (m : Numbers) (homes : Homes) (xs : List ClusteredItem) (ops : List Operation) → has_room m homes xs ≡ true → NeedsEach homes xs ops → (m.branches ≡ 1) ⊎ All (λ op. is_lone op ≡ false) ops →
     All (IsInFile m) (operands ops ++ destinations ops) → FitsMachine m ops

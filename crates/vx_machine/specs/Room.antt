@@ -70,12 +70,12 @@ is_cluster m (Some c) = nat_lt c m.clusters
 abbrev pub stand_well : Numbers → Homes → List ClusteredItem → Bool
 stand_well m homes xs = list_all (stands_well m) xs && list_all (is_cluster m) (flat_map (read_clusters homes) xs)
 
--- each cluster has the slots, units and ports for the items, the machine has the copy paths, and at most one split and one
--- observable operation are there
+-- each cluster has the slots, units and ports for the items, the machine has the copy paths, and at most as many splits as it has
+-- branches and at most one observable operation are there
 abbrev pub has_room : Numbers → Homes → List ClusteredItem → Bool
 has_room m homes xs =
     is_machine m && stand_well m homes xs && all_below m.clusters (has_room_at m homes xs)
-    && nat_le (count_in (needs Copies) xs) m.copy_paths && nat_le (count_in is_split xs) 1 && nat_le (count_in is_observable_item xs) 1
+    && nat_le (count_in (needs Copies) xs) m.copy_paths && nat_le (count_in is_split xs) m.branches && nat_le (count_in is_observable_item xs) 1
 
 -- the same in words; a cluster that is not there has nothing
 
@@ -93,7 +93,7 @@ pub record HasRoom (m : Numbers) (homes : Homes) (xs : List ClusteredItem) : Typ
   pub sources : All (IsCluster m) (flat_map (read_clusters homes) xs)
   pub on_cluster_0 : All (λ x. (x.cluster ≡ 0) ⊎ ((is_split x.item ≡ false) × (is_observable_item x.item ≡ false))) xs
   pub copies : count_in (needs Copies) xs ≤ m.copy_paths
-  pub splits : count_in is_split xs ≤ 1
+  pub splits : count_in is_split xs ≤ m.branches
   pub observable : count_in is_observable_item xs ≤ 1
 
 -- the laws of room, each the clause of a public function of this crate

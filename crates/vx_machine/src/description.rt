@@ -1,12 +1,12 @@
-// How a description of a machine is read: a TOML table with every field as an integer at its top level. The
-// clause is `reading` of specs/Descriptions.antt; docs/MACHINE.md has the table of the fields.
+// How a description of a machine is read: a TOML table with every field as an integer at its top level, of which the last
+// may be absent. The clause is `reading` of specs/Descriptions.antt; docs/MACHINE.md has the table of the fields.
 
 ghost use Rattle.std.specs.Prelude.{true, ◌≡◌, ◌≢◌, ◌⊎◌, ◌<◌, ◌≤◌, ◌^◌, option_map, not, string_bytes, Ok, Err, Some, None, IfOk, IfErr};
 ghost use Rattle.std.specs.List.{list_any};
 ghost use Rattle.std.specs.Str.{bytes_eq};
 ghost use Rattle.std.specs.Map.{keys_of};
 ghost use Rattle.toml.specs.View.{view, table_view};
-ghost use Rattle.vx_machine.specs.Descriptions.{names, name_of, field, is_field, fields, table_of, number_at, has_unknown, whole, is_within, fault_of, first_fault, machine_fault, numbers_of, reading, ReadsInWords};
+ghost use Rattle.vx_machine.specs.Descriptions.{names, name_of, field, is_field, fields, table_of, number_at, whole_or_one, branches_at, fault_if_there, has_unknown, whole, is_within, fault_of, first_fault, machine_fault, numbers_of, reading, ReadsInWords};
 ghost use Rattle.toml.specs.Data.{get_member};
 ghost use Rattle.toml.specs.Errors.{IsMemory};
 
@@ -28,9 +28,10 @@ pub enum MachineFault {
 }
 
 /// The machine that a description gives: a TOML table with every field as an integer of its range, and no other
-/// key, at its top level. A byte order mark in front says nothing. `Bad` comes with code 1 where the bytes are no
-/// TOML in UTF-8, else with code 4 where a key is no field, else for the first field that is missing (2) or out of
-/// its range (3). A range that names `issue` is tested with the description's own. `NoMemory` may come at any call.
+/// key, at its top level; `branches` may be absent and then is 1. A byte order mark in front says nothing. `Bad` comes with
+/// code 1 where the bytes are no TOML in UTF-8, else with code 4 where a key is no field, else for the first field that is
+/// missing (2) or out of its range (3), `branches` last. A range that names `issue` is tested with the description's own.
+/// `NoMemory` may come at any call.
 pub fn from_toml(alloc: Global, bytes: &[u8]) -> Result<Machine, MachineFault>
     ensures { result ≢ Err MachineFault.NoMemory → result ≡ reading bytes.now }
 {
@@ -45,7 +46,7 @@ pub fn from_toml(alloc: Global, bytes: &[u8]) -> Result<Machine, MachineFault>
 }
 
 /// Bytes are read as a machine exactly where they are a table that has the machine's number at each field and no
-/// other key.
+/// other key; where nothing is said of the branches, the machine has one.
 pub fn description_law()
     ensures { ReadsInWords }
 {}
@@ -78,7 +79,20 @@ fn machine_fault(table: &Table) -> Option<MachineFault>
     if has_unknown(table) {
         return Some(MachineFault::Bad { code: 4, field: 0 });
     }
-    first_fault(table, &fields(number_at(table, ISSUE)))
+    match first_fault(table, &fields(number_at(table, ISSUE))) {
+        Some(fault) => Some(fault),
+        None => fault_if_there(table, &Field::new(BRANCHES, 1, 2)),
+    }
+}
+
+/// The fault of a field that may be absent.
+fn fault_if_there(table: &Table, field: &Field) -> Option<MachineFault>
+    ensures { result ≡ fault_if_there field.now (get_member (name_of field.now.number) (table_view table.now)) }
+{
+    match value_at(table, field.number) {
+        None => None,
+        Some(_) => fault_at(table, field),
+    }
 }
 
 /// Whether a key is no field.
@@ -104,7 +118,7 @@ fn has_other_key(table: &Table) -> bool
 fn is_name(key: &str) -> bool
     ensures { result ≡ list_any (bytes_eq key.now) names }
 {
-    for index in 0..16 {
+    for index in 0..17 {
         if key == field_name(index + 1) {
             return true;
         }
@@ -208,7 +222,25 @@ fn machine_of(table: &Table) -> Machine
         latency_load: number_of(table, 14),
         latency_divide: number_of(table, 15),
         latency_copy: number_of(table, 16),
+        branches: branches_of(table),
     }
+}
+
+/// The branches of a word: 1 where nothing is said of them.
+fn branches_at(table: &Table) -> u64
+    ensures { result ≡ branches_at (table_view table.now) }
+{
+    match value_at(table, BRANCHES) {
+        Some(value) => whole(value.as_integer()),
+        None => 1,
+    }
+}
+
+fn branches_of(table: &Table) -> u32
+    requires { machine_fault (table_view table.now) ≡ None }
+    ensures { result ≡ branches_at (table_view table.now) }
+{
+    branches_at(table) as u32
 }
 
 #[tactic(auto, using(crate::proofs::Ranges::small_at))]
@@ -246,6 +278,9 @@ impl Field {
 /// The number of the field `issue`, from which the ranges of others are counted.
 const ISSUE: u32 = 2;
 
+/// The number of the field `branches`, which may be absent.
+const BRANCHES: u32 = 17;
+
 /// The name of a field; the empty text where there is no field of this number.
 #[tactic(auto, unfolding(crate::specs::Descriptions::names))]
 pub fn field_name(field: u32) -> &'static str
@@ -268,11 +303,12 @@ pub fn field_name(field: u32) -> &'static str
         14 => "latency_load",
         15 => "latency_divide",
         16 => "latency_copy",
+        17 => "branches",
         _ => "",
     }
 }
 
-/// The fields with their ranges, at this many issue slots.
+/// The fields that must be there, with their ranges, at this many issue slots.
 fn fields(issue: u64) -> [Field; 16]
     requires { issue < 2 ^ 63 }
     ensures { result ≡ fields issue }

@@ -1,11 +1,11 @@
-// Whether a word fits a machine: slots, units and ports of each cluster, copy paths, the one control place and
-// the one observable operation. The clause is `fits` of vx_isa, and `fits_law` says it for every cluster.
+// Whether a word fits a machine: slots, units and ports of each cluster, copy paths, control places and the one
+// observable operation. The clause is `fits` of vx_isa, and `fits_law` says it for every cluster.
 
-ghost use Rattle.std.specs.Prelude.{◌≡◌, ◌≤◌, ◌++◌, ◌&&◌, nat_lt, nat_le, true, length, count_by};
+ghost use Rattle.std.specs.Prelude.{◌≡◌, ◌≤◌, ◌++◌, ◌&&◌, not, nat_lt, nat_le, true, length, count_by};
 ghost use Rattle.std.specs.List.{list_all};
 ghost use Rattle.vx_isa.specs.declared.operation.UnitKind.TheVariants.{Copies};
-ghost use Rattle.vx_isa.specs.Operations.{cluster_of, list_of, reads_of, destination_of, is_control, is_observable};
-ghost use Rattle.vx_isa.specs.Fits.{count_on, is_of, takes_read_port, takes_write_port, reads_on, writes_on, fits_cluster, is_in_file, operands, destinations, stands_on, all_below, fits};
+ghost use Rattle.vx_isa.specs.Operations.{cluster_of, list_of, reads_of, destination_of, is_control, is_lone, is_observable};
+ghost use Rattle.vx_isa.specs.Fits.{count_on, is_of, takes_read_port, takes_write_port, reads_on, writes_on, fits_cluster, is_in_file, operands, destinations, stands_on, all_below, fits_control, fits};
 
 use crate::Machine;
 use vx_isa::operation::{Operation, Register, UnitKind};
@@ -20,13 +20,32 @@ pub fn fits(machine: &Machine, word: &Word) -> bool
     stands_on(machine, ops) && fits_clusters(machine, ops) && fits_whole(machine, ops)
 }
 
-/// Whether the whole word has its copy paths, and at most one control and one observable operation.
+/// Whether the whole word has its copy paths and control places, and at most one observable operation.
 fn fits_whole(machine: &Machine, ops: &[Operation]) -> bool
-    ensures { result ≡ (nat_le (count_by (is_of Copies) ops.now) machine.now.copy_paths && nat_le (count_by is_control ops.now) 1 && nat_le (count_by is_observable ops.now) 1) }
+    ensures { result ≡ (nat_le (count_by (is_of Copies) ops.now) machine.now.copy_paths && fits_control machine.now ops.now && nat_le (count_by is_observable ops.now) 1) }
 {
     count_of(ops, UnitKind::Copies) <= machine.copy_paths() as usize
-        && count_of_control(ops) <= 1
+        && fits_control(machine, ops)
         && count_of_observable(ops) <= 1
+}
+
+/// Whether there are at most as many control operations as the machine has branches, and none that stands alone beside another.
+fn fits_control(machine: &Machine, ops: &[Operation]) -> bool
+    ensures { result ≡ fits_control machine.now ops.now }
+{
+    let control = count_of_control(ops);
+    control <= machine.branches() as usize && (control <= 1 || none_is_lone(ops))
+}
+
+fn none_is_lone(ops: &[Operation]) -> bool
+    ensures { result ≡ list_all (λ op. not (is_lone op)) ops.now }
+{
+    for op in ops {
+        if op.is_lone() {
+            return false;
+        }
+    }
+    true
 }
 
 /// Whether each operation and each register stands on a cluster that the machine has, and each register's number

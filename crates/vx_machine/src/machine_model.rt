@@ -3,6 +3,7 @@
 
 ghost use Rattle.std.specs.Prelude.{◌≡◌, ◌≤◌};
 ghost use Rattle.vx_isa.specs.Numbers.{IsMachine, vex};
+ghost use Rattle.vx_isa.specs.Machine.{branches_of};
 ghost use Rattle.vx_isa.specs.Operations.{latency_of_code, latency_of};
 ghost use Rattle.vx_machine.specs.Items.{latency_of_item};
 
@@ -11,7 +12,7 @@ use std::marker::Model;
 use vx_base::arithmetic::Code;
 use vx_isa::operation::Operation;
 
-/// The numbers of a machine. All counts but `clusters` and `copy_paths` are per cluster.
+/// The numbers of a machine. All counts but `clusters`, `copy_paths` and `branches` are per cluster.
 #[derive(Clone, Copy)]
 pub struct Machine {
     pub(crate) clusters: u32,
@@ -30,6 +31,7 @@ pub struct Machine {
     pub(crate) latency_load: u32,
     pub(crate) latency_divide: u32,
     pub(crate) latency_copy: u32,
+    pub(crate) branches: u32,
 }
 
 impl Model for Machine {
@@ -54,6 +56,7 @@ impl Model for Machine {
       latency_load = a.latency_load;
       latency_divide = a.latency_divide;
       latency_copy = a.latency_copy;
+      branches = a.branches;
     } };
 
     ghost invariant = { λ a. IsMachine (record {
@@ -73,6 +76,7 @@ impl Model for Machine {
       latency_load = a.latency_load;
       latency_divide = a.latency_divide;
       latency_copy = a.latency_copy;
+      branches = a.branches;
     }) };
 
     ghost inverse = { λ m. record {
@@ -92,6 +96,7 @@ impl Model for Machine {
       latency_load = m.latency_load;
       latency_divide = m.latency_divide;
       latency_copy = m.latency_copy;
+      branches = m.branches;
     } };
 }
 
@@ -119,6 +124,7 @@ impl Machine {
             latency_load: 3,
             latency_divide: 8,
             latency_copy: 1,
+            branches: 1,
         }
     }
 
@@ -239,6 +245,23 @@ impl Machine {
         ensures { result ≡ self.now.latency_copy }
     {
         self.latency_copy
+    }
+
+    /// Branches of a word, 1 or 2.
+    pub fn branches(&self) -> u32
+        ensures { result ≡ self.now.branches }
+    {
+        self.branches
+    }
+
+    /// The machine that words of a version are issued by: those of version 1 have at most one branch each, on every machine.
+    pub fn for_version(&self, version: u32) -> Machine
+        ensures { result ≡ record self.now { branches = branches_of version self.now.branches } }
+    {
+        Machine {
+            branches: if version == 1 { 1 } else { self.branches },
+            ..*self
+        }
     }
 
     /// The cycles until the result of an operation has landed at the latest. It is 0 where there is none, and

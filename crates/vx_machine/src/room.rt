@@ -18,7 +18,8 @@ use vx_flow::trace::Homes;
 use vx_isa::operation::UnitKind;
 
 /// Whether the items can stand in one word of the machine: each cluster has slots, units and ports for them, the
-/// machine has the copy paths, and at most one split and one observable operation are there, on cluster 0. A copy
+/// machine has the copy paths, at most as many splits as it has branches and at most one observable operation are there, and
+/// both stand on cluster 0. A copy
 /// across takes its read port where its operand has its home; without a home there is no room for it. It takes no memory.
 pub fn has_room(machine: &Machine, homes: &Homes, items: &[ClusteredItem]) -> bool
     ensures { result ≡ has_room machine.now homes.now items.now }
@@ -29,8 +30,8 @@ pub fn has_room(machine: &Machine, homes: &Homes, items: &[ClusteredItem]) -> bo
         && have_room_in_whole(machine, items)
 }
 
-/// Items have room exactly where each cluster has the slots, units and ports for them, the machine has the copy paths,
-/// and at most one split and one observable operation are there, on cluster 0.
+/// Items have room exactly where each cluster has the slots, units and ports for them, the machine has the copy paths, at most
+/// as many splits as it has branches and at most one observable operation are there, and both stand on cluster 0.
 #[tactic(auto, using(crate::proofs::RoomLaw::room_in_words))]
 pub fn room_law()
     ensures { RoomInWords }
@@ -49,18 +50,18 @@ pub fn room_alone_law()
     ensures { RoomAlone }
 {}
 
-/// Operations on registers that need no more than items with room, one for each, fit the machine where their registers
-/// are in its files.
+/// Operations on registers that need no more than items with room, one for each, fit the machine where their registers are in
+/// its files; on a machine of two branches only where none of them is a control operation that stands alone.
 #[tactic(auto, using(crate::proofs::FitsByRoom::fits_by_room))]
 pub fn fits_by_room_law()
     ensures { FitsByRoom }
 {}
 
 fn have_room_in_whole(machine: &Machine, items: &[ClusteredItem]) -> bool
-    ensures { result ≡ (nat_le (count_in (needs Copies) items.now) machine.now.copy_paths && nat_le (count_in is_split items.now) 1 && nat_le (count_in is_observable_item items.now) 1) }
+    ensures { result ≡ (nat_le (count_in (needs Copies) items.now) machine.now.copy_paths && nat_le (count_in is_split items.now) machine.now.branches && nat_le (count_in is_observable_item items.now) 1) }
 {
     count_of_copies(items) <= machine.copy_paths() as usize
-        && count_of_splits(items) <= 1
+        && count_of_splits(items) <= machine.branches() as usize
         && count_of_observable(items) <= 1
 }
 

@@ -1,1 +1,1 @@
-pub mod NarrowMachine
+pub mod SameMachine

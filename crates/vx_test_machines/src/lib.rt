@@ -1,4 +1,5 @@
-// The machines of the tests: the default one, and narrow ones that are read from descriptions.
+// The machines of the tests: the default one, and those that are read from descriptions: narrow ones, and one with two branches a
+// word.
 #![tactic(auto)]
 
 mod kinds;

@@ -24,6 +24,7 @@ invariant_of-result c =
       latency_load = c.number_of-14.result;
       latency_divide = c.number_of-15.result;
       latency_copy = c.number_of-16.result;
+      branches = c.branches_of.result;
     } in
     let same : m ≡ numbers_of (table_view c.args.table.now) = λ i. record {
       clusters = c.number_of.ensures i;
@@ -42,5 +43,6 @@ invariant_of-result c =
       latency_load = c.number_of-14.ensures i;
       latency_divide = c.number_of-15.ensures i;
       latency_copy = c.number_of-16.ensures i;
+      branches = c.branches_of.ensures i;
     } in
     in_ranges_as (table_view c.args.table.now) m same c.requires
