@@ -144,7 +144,7 @@ end_absent before = record {
     stood (label p f x) = let h : 101 ≡ 76 = ap initial f in omega (arith, h)
 
 end_bad : (all before : List (List ℕ)) → (IsBetweenWords before → ⊥) → Applies BadLine all before (codes ".end")
-end_bad all before never Version m e = let h : 101 ≡ 118 = ap initial e in omega (arith, h)
+end_bad all before never (Version v) m e = let h : 101 ≡ 118 = ap initial e in omega (arith, h)
 end_bad all before never (Memory n) m e = let h : 101 ≡ 109 = ap initial e in omega (arith, h)
 end_bad all before never (Start entry) m e = let h : 101 ≡ 119 = ap initial e in omega (arith, h)
 end_bad all before never (Quoted bytes) m e = let h : 101 ≡ 116 = ap initial e in omega (arith, h)

@@ -1,8 +1,8 @@
 -- The first two lines: what a reader does with each, and the cause where it refuses it.
 use Rattle.std.proofs.Common.{◌≡◌, ◌⊎◌, inl, inr, ℕ, ◌+◌, ◌%◌, ◌^◌, ◌<◌, ◌≤◌, Bool, true, false, ◌&&◌, ◌||◌, List, [], ◌∷◌, ◌++◌, length, get_or, drop, Ok, Err, refl, sym, ap, subst, ◌∙◌, arith}
 use Rattle.std.specs.Prelude.{codes, decimal, nat_eq, nat_lt, not, if◌then◌else◌}
+use Rattle.std.specs.Fmt.{digits}
 use Rattle.std.specs.List.{list_all}
-use Rattle.std.specs.Str.{bytes_eq}
 use Rattle.std.proofs.lemmas.Bool.{lt-ltb, eq-eqb, and_from}
 use Rattle.std.proofs.lemmas.Bool.Decides.{nat_tests}
 use Rattle.std.proofs.lemmas.Fmt.{decimal-digits_value, decimal_injective, digits_value-decimal}
@@ -10,17 +10,20 @@ use borrow.Author.Tests.{eqb-true, ltb-true, ltb-false}
 use Rattle.vx_reader.specs.declared.before.Stage.{Stage}
 use Rattle.vx_reader.specs.declared.before.Stage.TheVariants.{Start as AtStart, Version as AtVersion, Memory as AtMemory}
 use Rattle.vx_reader.specs.declared.before.Before.{Before}
+use Rattle.vx_words.specs.Spelling.{version_text}
 use Rattle.vx_reader.specs.Fields.{is_digit}
 use Rattle.vx_reader.specs.Reading.{is_number}
-use Rattle.vx_reader.specs.Steps.{accepted, is_start_stage, is_version_stage, version_step, memory_step, is_size, value_from}
+use Rattle.vx_reader.specs.Steps.{accepted, is_start_stage, is_version_stage, is_version_line, version_of, version_step, memory_step, is_size, value_from}
 use Rattle.vx_reader.specs.Text.{is_word_end}
 use Rattle.vx_reader.proofs.Numbers.{own, both_true, is_number_digits}
 use Rattle.vx_reader.proofs.FieldsAgain.{decimal_is_number}
-use Rattle.vx_causes.specs.Lines.{Version, Memory, text_of, IsAmong, first_field, is_quoted, MayStand}
+use Rattle.vx_reader.proofs.StepLemmas.{version_written}
+use Rattle.vx_reader.proofs.ProgramAgain.{one_or_two}
+use Rattle.vx_causes.specs.Lines.{Version, Memory, text_of, IsVersion, BehindVersion, IsAmong, first_field, is_quoted, MayStand}
 use Rattle.vx_causes.specs.Causes.{Cause, Repeated, MemoryTooLarge, UnknownOperation, BadOperand, UnknownLabel, BadLine, rank, Applies, FirstCause, FieldStood, IsRepeated, version, memory, label, IsTooLarge, OnCluster}
-use Rattle.vx_causes.proofs.Sorts.{Kind, AnOperation, AVersion, AMemory, Another, kind, told, version_kind, label_kind, cluster_kind, large_kind, bad_line, Absent, bad_alone, none_applies, first_repeated, by_field, same_bytes}
-use Rattle.vx_causes.proofs.Lasts.{initial, last_initial, behind, among_last, among_more, among_split, word_count_more, text_count_more, one_of}
-use Rattle.vx_causes.proofs.Stands.{At, Labels, begun, Stands, by_initial, start_at, version_at, not_header, labels_same, either_true, no_test}
+use Rattle.vx_causes.proofs.Sorts.{Kind, AnOperation, AVersion, AMemory, Another, kind, told, version_kind, label_kind, cluster_kind, large_kind, bad_line, Absent, bad_alone, none_applies, first_repeated, by_field}
+use Rattle.vx_causes.proofs.Lasts.{initial, last_initial, behind, among_last, among_split, word_count_more, text_count_more, one_of}
+use Rattle.vx_causes.proofs.Stands.{At, Labels, begun, Stands, by_initial, start_at, version_at, version_more, not_header, labels_same, either_true, no_test}
 use Rattle.vx_causes.proofs.Operations.{value_is}
 use Rattle.vx_causes.proofs.Directives.{Judged, Here, accepted_by, chosen_by, no_more_words, no_more_texts, other_initial}
 
@@ -61,28 +64,47 @@ version_absent before text e none = record {
     stood (memory f x) = nothing_stood before text none x
     stood (label p f x) = subst (IsAmong text) none x
 
+first_spelled : is_version_line (version_text 1) ≡ true
+unfolding digits
+first_spelled = refl
+
+second_spelled : is_version_line (version_text 2) ≡ true
+unfolding digits
+second_spelled = refl
+
+-- the text of a version is its line
+version_spelled : (v : ℕ) → IsVersion v → is_version_line (version_text v) ≡ true
+version_spelled v (inl e) = ap (λ n. is_version_line (version_text n)) e ∙ first_spelled
+version_spelled v (inr e) = ap (λ n. is_version_line (version_text n)) e ∙ second_spelled
+
 pub version_judged : (all : List (List ℕ)) (marks : List Bool) (total : ℕ) (before : List (List ℕ)) (s : Before) (text : List ℕ) → Here all marks total before s → kind text ≡ AVersion
     → Judged all marks before text (version_step s text)
 unfolding version_step
 version_judged all marks total before s text here e =
     let st = here.stands in
-    chosen_by all marks before text (is_start_stage s.stage) (accepted (bytes_eq text (codes ".vexwords 1")) (record s { stage = AtVersion })) (Err 5)
-    (λ h. accepted_by all marks before text (bytes_eq text (codes ".vexwords 1")) (record s { stage = AtVersion }) (λ t. accepts st h t) (λ t. refuses st h t))
-    (λ h. (Repeated, refl, first_repeated all before text (version (told text AVersion e) (record { other = text_of Version; stood = st.version_stood h; same = sym (told text AVersion e) }))))
+    chosen_by all marks before text (is_start_stage s.stage) (accepted (is_version_line text) (record s { stage = AtVersion; version = version_of text })) (Err 5)
+    (λ h. accepted_by all marks before text (is_version_line text) (record s { stage = AtVersion; version = version_of text }) (λ t. accepts st h t) (λ t. refuses st h t))
+    (λ h. (Repeated, refl, first_repeated all before text (version (told text AVersion e) (stood_version st h))))
   where
-    accepts : Stands marks before s → is_start_stage s.stage ≡ true → bytes_eq text (codes ".vexwords 1") ≡ true → Judged all marks before text (Ok (record s { stage = AtVersion }))
+    stood_version : Stands marks before s → is_start_stage s.stage ≡ false → FieldStood before text
+    stood_version st h = let x = st.version_stood h in record { other = text_of (Version x.0); stood = x.1; same = sym (told text AVersion e) }
+
+    accepts : Stands marks before s → is_start_stage s.stage ≡ true → is_version_line text ≡ true → Judged all marks before text (Ok (record s { stage = AtVersion; version = version_of text }))
     accepts st h t =
         let none = start_at s.stage s.least before st.last h in
-        let same : text ≡ codes ".vexwords 1" = same_bytes text (codes ".vexwords 1") t in
+        let v = version_of text in
+        let written = version_written text t in
+        let known : IsVersion v = one_or_two v written.1 in
+        let same : text ≡ text_of (Version v) = written.0 in
         let first : initial text ≡ 118 = ap initial same in
         let least : s.least ≡ 0 = least_of s.stage s.least before st.last h in
         let bound : length s.words + begun s.stage ≡ length s.words + 0 = ap (λ k. length s.words + k) (start_begun s.stage h) in (
-          none_applies all before text Version (version_absent before text e none) none same,
+          none_applies all before text (Version v) (version_absent before text e none) (none, known) same,
           record {
-            last = (ap (λ x. x ++ text ∷ []) none ∙ ap (λ x. x ∷ []) same, least);
+            last = (record { number = v; known = known; is = ap (λ x. x ++ text ∷ []) none ∙ ap (λ x. x ∷ []) same }, least);
             words = no_more_words text AVersion (length s.words) e refl ∙ ap (λ k. k + one_of (is_word_end text)) st.words ∙ sym (word_count_more before text);
             texts = no_more_texts text AVersion (length s.texts) e refl ∙ ap (λ k. k + one_of (is_quoted text)) st.texts ∙ sym (text_count_more before text);
-            version_stood = λ _. among_last (text_of Version) before text (sym same);
+            version_stood = λ _. (v, among_last (text_of (Version v)) before text (sym same));
             memory_stood = λ never. no_test never;
             memory_only = λ n le among. elim (among_split (text_of (Memory n)) before text among) [
               | inl x ↦ st.memory_only n le x
@@ -97,11 +119,11 @@ version_judged all marks total before s text here e =
         least_of AtStart least before x e = x.1
         least_of stage least before x e = no_test e
 
-    refuses : Stands marks before s → is_start_stage s.stage ≡ true → bytes_eq text (codes ".vexwords 1") ≡ false → FirstCause all before text BadLine
+    refuses : Stands marks before s → is_start_stage s.stage ≡ true → is_version_line text ≡ false → FirstCause all before text BadLine
     refuses st h t =
         let none = start_at s.stage s.least before st.last h in
         bad_alone all before text (version_absent before text e none)
-        (bad_line all before text AVersion e here.more (λ own. no_test (sym t ∙ ap (λ x. bytes_eq x (codes ".vexwords 1")) own.1)))
+        (bad_line all before text AVersion e here.more (λ own. no_test (sym t ∙ ap is_version_line own.2 ∙ version_spelled own.0 own.1.1)))
 
 -- the size of the memory
 
@@ -123,13 +145,13 @@ large_test text digits d x =
     ap (λ y. is_size y && nat_lt 134217728 (value_from 0 y)) same ∙ rw (x.number, eq-eqb (value_from 0 x.digits % 4) 0 whole, lt-ltb _ _ far) refl
 
 -- where nothing or the version stood before
-memory_not_stood : (before : List (List ℕ)) (text : List ℕ) → (before ≡ []) ⊎ (before ≡ text_of Version ∷ []) → kind text ≡ AMemory → IsRepeated before text → ⊥
+memory_not_stood : (before : List (List ℕ)) (text : List ℕ) → (before ≡ []) ⊎ BehindVersion before → kind text ≡ AMemory → IsRepeated before text → ⊥
 memory_not_stood before text w e (version f x) = other_kind text AMemory AVersion is_memory_kind e (version_kind text f) refl refl
 memory_not_stood before text w e (label p f x) = other_kind text AMemory Another is_memory_kind e (ap kind f ∙ label_kind (decimal p ++ codes ":")) refl refl
 memory_not_stood before text (inl none) e (memory f x) = nothing_stood before text none x
-memory_not_stood before text (inr one) e (memory f x) = alone x.other (subst (IsAmong x.other) one x.stood) (x.same ∙ f)
+memory_not_stood before text (inr one) e (memory f x) = alone x.other (subst (IsAmong x.other) one.is x.stood) (x.same ∙ f)
   where
-    alone : (other : List ℕ) → IsAmong other (text_of Version ∷ []) → first_field other ≡ codes ".memory" → ⊥
+    alone : (other : List ℕ) → IsAmong other (text_of (Version one.number) ∷ []) → first_field other ≡ codes ".memory" → ⊥
     alone other (inl is) same = let h : codes ".vexwords" ≡ codes ".memory" = ap first_field (sym is) ∙ same in cc
     alone other (inr never) same = never
 
@@ -144,14 +166,14 @@ memory_split text f number =
       | inr x ↦ x.1 ∙ ap (λ y. codes ".memory " ++ y) (sym (ap (drop 8) x.1))
     ]
 
-memory_absent : (before : List (List ℕ)) (text : List ℕ) → kind text ≡ AMemory → (before ≡ []) ⊎ (before ≡ text_of Version ∷ []) → (is_size (drop 8 text) && nat_lt 134217728 (value_from 0 (drop 8 text))) ≡ false → Absent before text
+memory_absent : (before : List (List ℕ)) (text : List ℕ) → kind text ≡ AMemory → (before ≡ []) ⊎ BehindVersion before → (is_size (drop 8 text) && nat_lt 134217728 (value_from 0 (drop 8 text))) ≡ false → Absent before text
 memory_absent before text e w near = record {
   repeated = memory_not_stood before text w e;
   large = λ x. no_test (sym near ∙ large_test text (drop 8 text) refl x);
   cluster = λ rest x. not_on_cluster text rest e x;
 }
 
-size_too_large : (all before : List (List ℕ)) (text : List ℕ) → kind text ≡ AMemory → (before ≡ []) ⊎ (before ≡ text_of Version ∷ [])
+size_too_large : (all before : List (List ℕ)) (text : List ℕ) → kind text ≡ AMemory → (before ≡ []) ⊎ BehindVersion before
     → (is_size (drop 8 text) && nat_lt 134217728 (value_from 0 (drop 8 text))) ≡ true → FirstCause all before text MemoryTooLarge
 size_too_large all before text e w h =
     let digits = drop 8 text in
@@ -205,10 +227,10 @@ memory_accepts all marks before s text st e near h =
         last = inl (n, behind before text (Memory n) same, least);
         words = no_more_words text AMemory (length s.words) e refl ∙ ap (λ k. k + one_of (is_word_end text)) st.words ∙ sym (word_count_more before text);
         texts = no_more_texts text AMemory (length s.texts) e refl ∙ ap (λ k. k + one_of (is_quoted text)) st.texts ∙ sym (text_count_more before text);
-        version_stood = λ _. among_more (text_of Version) before text (st.version_stood started);
+        version_stood = λ _. version_more before text (st.version_stood started);
         memory_stood = λ _. among_last (text_of (Memory n)) before text (sym same);
         memory_only = λ m le among. elim (among_split (text_of (Memory m)) before text among) [
-          | inl x ↦ absurd (alone m (subst (IsAmong (text_of (Memory m))) only x))
+          | inl x ↦ absurd (alone only.number m (subst (IsAmong (text_of (Memory m))) only.is x))
           | inr x ↦ decimal_injective m n (omega (arith, le)) (omega (arith, small)) (ap (drop 8) (x ∙ same))
         ];
         memory_small = small;
@@ -220,11 +242,11 @@ memory_accepts all marks before s text st e near h =
     no_start AtVersion e = refl
     no_start stage e = no_test e
 
-    alone : (m : ℕ) → IsAmong (text_of (Memory m)) (text_of Version ∷ []) → ⊥
-    alone m (inl is) = let h : 109 ≡ 118 = ap initial is in omega (arith, h)
-    alone m (inr never) = never
+    alone : (v m : ℕ) → IsAmong (text_of (Memory m)) (text_of (Version v) ∷ []) → ⊥
+    alone v m (inl is) = let h : 109 ≡ 118 = ap initial is in omega (arith, h)
+    alone v m (inr never) = never
 
-memory_refuses : (all : List (List ℕ)) (marks : List Bool) (before : List (List ℕ)) (s : Before) (text : List ℕ) → Stands marks before s → kind text ≡ AMemory → (before ≡ []) ⊎ (before ≡ text_of Version ∷ [])
+memory_refuses : (all : List (List ℕ)) (marks : List Bool) (before : List (List ℕ)) (s : Before) (text : List ℕ) → Stands marks before s → kind text ≡ AMemory → (before ≡ []) ⊎ BehindVersion before
     → (length all ≡ length before + 1 → ⊥) → (is_size (drop 8 text) && nat_lt 134217728 (value_from 0 (drop 8 text))) ≡ false → (is_size (drop 8 text) && is_version_stage s.stage) ≡ false → FirstCause all before text BadLine
 memory_refuses all marks before s text st e w more near h =
     bad_alone all before text (memory_absent before text e w near)
@@ -237,7 +259,7 @@ memory_refuses all marks before s text st e w more near h =
         let value : value_from 0 (decimal n) ≡ n = digits_value-decimal own n (omega (arith, small)) in
         let whole : value_from 0 (decimal n) % 4 ≡ 0 = ap (λ k. k % 4) value ∙ m.1 in
         let size : is_size (drop 8 text) ≡ true = ap is_size digits ∙ rw (decimal_is_number n (omega (arith, small)), eq-eqb (value_from 0 (decimal n) % 4) 0 whole) refl in
-        let stage : is_version_stage s.stage ≡ true = (by_initial s.stage s.least before st.last).version ∙ ap (λ x. nat_eq (last_initial x) 118) m.0 in
+        let stage : is_version_stage s.stage ≡ true = (by_initial s.stage s.least before st.last).version ∙ ap (λ x. nat_eq (last_initial x) 118) m.0.is in
         and_from _ _ size stage
 
 pub memory_judged : (all : List (List ℕ)) (marks : List Bool) (total : ℕ) (before : List (List ℕ)) (s : Before) (text : List ℕ) → Here all marks total before s → kind text ≡ AMemory
@@ -261,7 +283,7 @@ memory_judged all marks total before s text here e =
           (record { other = text_of (Memory s.memory); stood = st.memory_stood (not_header s.stage b.0 b.1); same = sym (told text AMemory e) })),
     ))
   where
-    where_at : Stands marks before s → (is_start_stage s.stage || is_version_stage s.stage) ≡ true → (before ≡ []) ⊎ (before ≡ text_of Version ∷ [])
+    where_at : Stands marks before s → (is_start_stage s.stage || is_version_stage s.stage) ≡ true → (before ≡ []) ⊎ BehindVersion before
     where_at st h = elim (either_true (is_start_stage s.stage) (is_version_stage s.stage) h) [
       | inl x ↦ inl (start_at s.stage s.least before st.last x)
       | inr x ↦ inr (version_at s.stage s.least before st.last x)

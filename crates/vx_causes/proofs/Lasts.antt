@@ -32,7 +32,7 @@ last_of [] t = refl
 last_of (l ∷ ls) t = last_from_more l ls t
 
 abbrev pub line_initial : Line → ℕ
-line_initial Version = 118
+line_initial (Version v) = 118
 line_initial (Memory n) = 109
 line_initial (Start entry) = 119
 line_initial (Quoted bytes) = 116
@@ -43,7 +43,7 @@ line_initial WordEnd = 59
 line_initial End = 101
 
 pub initial_of : (l : Line) → initial (text_of l) ≡ line_initial l
-initial_of Version = refl
+initial_of (Version v) = refl
 initial_of (Memory n) = refl
 initial_of (Start entry) = refl
 initial_of (Quoted bytes) = refl

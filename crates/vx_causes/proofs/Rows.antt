@@ -1,5 +1,5 @@
 -- Worked causes of lines, by computation.
-use Rattle.std.proofs.Common.{inl, inr, ℕ, List, [], ◌∷◌, refl, arith}
+use Rattle.std.proofs.Common.{◌≡◌, inl, inr, ℕ, List, [], ◌∷◌, Some, refl, arith}
 use Rattle.std.specs.Prelude.{codes}
 use Rattle.std.specs.Fmt.{digits}
 use Rattle.vx_isa.specs.declared.operation.Operation.TheVariants.{Goto}
@@ -8,12 +8,12 @@ use Rattle.vx_reader.specs.Fields.{number_at, signed_at, numbers_at, general_at,
 use Rattle.vx_reader.specs.Forms.{form_of, candidate, compute_of, move_of, select_of, load_of, store_of, branch_on_of}
 use Rattle.vx_reader.specs.Reading.{operation_of, operation_by, has_form, has_operands}
 use Rattle.vx_reader.specs.Steps.{version_step, memory_step, start_step, entry_at, text_step, unquoted, label_step, label_by, idle_step, word_end_step, operation_by_stage, operation_step, step}
-use Rattle.vx_reader.specs.Text.{line_operation, reading}
-use Rattle.vx_causes.specs.Lines.{Label, MayStand, behind_size, behind_memory, behind_texts}
-use Rattle.vx_causes.specs.Causes.{Repeated, MemoryTooLarge, UnknownOperation, BadOperand, UnknownLabel, Applies, FirstCause, memory, label, goes, IsFault}
+use Rattle.vx_reader.specs.Text.{Fault, line_operation, reading, text_fault}
+use Rattle.vx_causes.specs.Lines.{Version, Memory, Label, MayStand, behind_size, behind_memory, behind_texts}
+use Rattle.vx_causes.specs.Causes.{Repeated, MemoryTooLarge, UnknownOperation, BadOperand, UnknownLabel, Applies, FirstCause, version, memory, label, goes, IsFault}
 use Rattle.vx_causes.proofs.Sorts.{first_repeated}
 use Rattle.vx_causes.proofs.Operations.{unknown_of}
-use Rattle.vx_causes.proofs.Refused.{found_is_fault}
+use Rattle.vx_causes.proofs.Refused.{found_is_fault, every_fault_found}
 
 abbrev header : List (List ℕ)
 header = codes ".vexwords 1" ∷ codes ".memory 8" ∷ []
@@ -70,7 +70,47 @@ label_stands = (
   record { op = Goto 0; spellable = record { operands = refl; numbers = refl }; stands = inr (inr (inr (inl refl))); names = refl },
 )
 
+-- each version may stand first, and no other number
+
+first_version : (all : List (List ℕ)) → MayStand all [] (Version 1)
+first_version all = (refl, inl refl)
+
+second_version : (all : List (List ℕ)) → MayStand all [] (Version 2)
+second_version all = (refl, inr refl)
+
+third_version : (all : List (List ℕ)) → MayStand all [] (Version 3) → ⊥
+third_version all x = elim x.1 [ inl e ↦ omega (arith, e) | inr e ↦ omega (arith, e) ]
+
+-- the memory behind the second version
+memory_behind : (all : List (List ℕ)) → MayStand all (codes ".vexwords 2" ∷ []) (Memory 8)
+unfolding digits
+memory_behind all = (record { number = 2; known = inr refl; is = refl }, refl, omega arith)
+
+-- the second version a second time, and behind the first
+second_second_version : (all : List (List ℕ)) → FirstCause all (codes ".vexwords 2" ∷ []) (codes ".vexwords 2") Repeated
+second_second_version all =
+    first_repeated all (codes ".vexwords 2" ∷ []) (codes ".vexwords 2") (version refl (record { other = codes ".vexwords 2"; stood = inl refl; same = refl }))
+
+second_behind_first : (all : List (List ℕ)) → FirstCause all (codes ".vexwords 1" ∷ []) (codes ".vexwords 2") Repeated
+second_behind_first all =
+    first_repeated all (codes ".vexwords 1" ∷ []) (codes ".vexwords 2") (version refl (record { other = codes ".vexwords 1"; stood = inl refl; same = refl }))
+
 -- whole texts
+
+-- a text of the second version has no fault
+faultless_second : (fault : Fault) → IsFault (codes ".vexwords 2\n.memory 0\n.end\n") fault → ⊥
+unfolding reading line_operation step operation_step operation_of operation_by operation_by_stage has_form has_operands form_of candidate compute_of move_of select_of load_of store_of branch_on_of number_at signed_at numbers_at general_at branch_at register_at source_at version_step memory_step start_step entry_at text_step unquoted label_step label_by idle_step word_end_step digits
+faultless_second fault x = let h : text_fault (codes ".vexwords 2\n.memory 0\n.end\n") ≡ Some fault = every_fault_found (codes ".vexwords 2\n.memory 0\n.end\n") (omega arith) fault x in cc
+
+-- another version, before a line that is faulty too
+bad_version : IsFault (codes ".vexwords 3\n.memory 2\n.end\n") (record { code = 1; line = 1 })
+unfolding reading line_operation step operation_step operation_of operation_by operation_by_stage has_form has_operands form_of candidate compute_of move_of select_of load_of store_of branch_on_of number_at signed_at numbers_at general_at branch_at register_at source_at version_step memory_step start_step entry_at text_step unquoted label_step label_by idle_step word_end_step digits
+bad_version = found_is_fault (codes ".vexwords 3\n.memory 2\n.end\n") (omega arith) (record { code = 1; line = 1 }) refl
+
+-- the second version hides no later fault
+odd_memory : IsFault (codes ".vexwords 2\n.memory 2\n.end\n") (record { code = 1; line = 2 })
+unfolding reading line_operation step operation_step operation_of operation_by operation_by_stage has_form has_operands form_of candidate compute_of move_of select_of load_of store_of branch_on_of number_at signed_at numbers_at general_at branch_at register_at source_at version_step memory_step start_step entry_at text_step unquoted label_step label_by idle_step word_end_step digits
+odd_memory = found_is_fault (codes ".vexwords 2\n.memory 2\n.end\n") (omega arith) (record { code = 1; line = 2 }) refl
 
 -- a label that nothing names
 unused_label : IsFault (codes ".vexwords 1\n.memory 0\nL0:\n;;\n.end\n") (record { code = 1; line = 3 })

@@ -198,7 +198,7 @@ large_kind text x = ap kind x.is
 -- the kinds of lines
 
 abbrev pub line_kind : Line → Kind
-line_kind Version = AVersion
+line_kind (Version v) = AVersion
 line_kind (Memory n) = AMemory
 line_kind (Start entry) = AStart
 line_kind (Quoted bytes) = AText
@@ -223,7 +223,7 @@ operation_kind op e = ap kind (spelled_bytes op e) ∙ operation_bytes_kind (clu
 abbrev pub Own : Kind → (all before : List (List ℕ)) → List ℕ → Type 0
 Own AnOperation all before text = (op : Operation) × MayStand all before (Operates op) × (text ≡ operation_text op)
 Own AnEnd all before text = MayStand all before WordEnd
-Own AVersion all before text = MayStand all before Version × (text ≡ codes ".vexwords 1")
+Own AVersion all before text = (v : ℕ) × MayStand all before (Version v) × (text ≡ text_of (Version v))
 Own AMemory all before text = (n : ℕ) × MayStand all before (Memory n) × (text ≡ text_of (Memory n))
 Own AStart all before text = (entry : ℕ × ℤ) × MayStand all before (Start entry) × (text ≡ start_text entry)
 Own AText all before text = (bytes : List ℕ) × MayStand all before (Quoted bytes) × (text ≡ quoted_text bytes)
@@ -231,7 +231,7 @@ Own AnIdle all before text = (n : ℕ) × MayStand all before (Idle n) × (text 
 Own Another all before text = (p : ℕ) × MayStand all before (Label p) × (text ≡ place_text p)
 
 own_line : (all before : List (List ℕ)) (text : List ℕ) (l : Line) → (length all ≡ length before + 1 → ⊥) → MayStand all before l → text ≡ text_of l → Own (kind text) all before text
-own_line all before text Version more m e = subst (λ k. Own k all before text) (sym (ap kind e)) (m, e)
+own_line all before text (Version v) more m e = subst (λ k. Own k all before text) (sym (ap kind e)) (v, m, e)
 own_line all before text (Memory n) more m e = subst (λ k. Own k all before text) (sym (ap kind e)) (n, m, e)
 own_line all before text (Start entry) more m e = subst (λ k. Own k all before text) (sym (ap kind e)) (entry, m, e)
 own_line all before text (Quoted bytes) more m e = subst (λ k. Own k all before text) (sym (ap kind e)) (bytes, m, e)

@@ -12,7 +12,7 @@ use Rattle.vx_words.specs.Spelling.{place_text}
 use Rattle.vx_reader.specs.Steps.{is_start_stage, is_version_stage, is_memory_stage, is_text_stage, is_between_words, is_label_stage, is_operations_stage, is_idle_stage, is_marked, begins_word, label_stood}
 use Rattle.vx_reader.specs.Text.{word_count, is_word_end}
 use Rattle.vx_reader.proofs.Numbers.{both_true}
-use Rattle.vx_causes.specs.Lines.{Version, Memory, Start, Quoted, Label, Operates, Idle, WordEnd, text_of, IsLast, IsAmong, IsNamed, is_quoted, text_count, InMemory, behind_size, behind_start, TextsBegin, behind_memory, behind_text, IsBetweenWords, behind_texts, behind_word, BeginsWord, behind_label, unnamed}
+use Rattle.vx_causes.specs.Lines.{Version, Memory, Start, Quoted, Label, Operates, Idle, WordEnd, text_of, IsLast, IsAmong, IsNamed, is_quoted, text_count, BehindVersion, InMemory, behind_size, behind_start, TextsBegin, behind_memory, behind_text, IsBetweenWords, behind_texts, behind_word, BeginsWord, behind_label, unnamed}
 use Rattle.vx_causes.proofs.Lasts.{initial, last_initial, is_last_initial, among_more, among_last, among_split, one_of, word_count_more, text_count_more}
 
 -- the whole text, and what a reader found of it beforehand
@@ -25,7 +25,7 @@ pub record Setting (all : List (List ℕ)) (marks : List Bool) (total : ℕ) : T
 -- the last line, by the stage
 abbrev pub At : Stage → ℕ → List (List ℕ) → Type 0
 At AtStart least before = (before ≡ []) × (least ≡ 0)
-At AtVersion least before = (before ≡ text_of Version ∷ []) × (least ≡ 0)
+At AtVersion least before = BehindVersion before × (least ≡ 0)
 At AtMemory least before =
     ((n : ℕ) × IsLast before (Memory n) × (least ≡ 0))
     ⊎ ((entry : ℕ × ℤ) × IsLast before (Start entry) × (least ≡ entry.0 + 1) × (entry.0 ≤ 4294967295))
@@ -57,7 +57,7 @@ pub record Stands (marks : List Bool) (before : List (List ℕ)) (s : Before) : 
   pub last : At s.stage s.least before
   pub words : length s.words ≡ word_count before
   pub texts : length s.texts ≡ text_count before
-  pub version_stood : is_start_stage s.stage ≡ false → IsAmong (text_of Version) before
+  pub version_stood : is_start_stage s.stage ≡ false → (v : ℕ) × IsAmong (text_of (Version v)) before
   pub memory_stood : is_open s.stage ≡ true → IsAmong (text_of (Memory s.memory)) before
   pub memory_only : (n : ℕ) → n ≤ 134217728 → IsAmong (text_of (Memory n)) before → n ≡ s.memory
   pub memory_small : s.memory ≤ 134217728
@@ -89,7 +89,7 @@ at_literal stage n k e x = subst (ByInitial stage) (sym e) x
 
 pub by_initial : (stage : Stage) (least : ℕ) (before : List (List ℕ)) → At stage least before → ByInitial stage (last_initial before)
 by_initial AtStart least before x = at_literal AtStart (last_initial before) 0 (ap last_initial x.0) (record { between = refl; texts = refl; memory = refl; version = refl; label = refl; operations = refl; idle = refl })
-by_initial AtVersion least before x = at_literal AtVersion (last_initial before) 118 (ap last_initial x.0) (record { between = refl; texts = refl; memory = refl; version = refl; label = refl; operations = refl; idle = refl })
+by_initial AtVersion least before x = at_literal AtVersion (last_initial before) 118 (ap last_initial x.0.is) (record { between = refl; texts = refl; memory = refl; version = refl; label = refl; operations = refl; idle = refl })
 by_initial AtMemory least before (inl x) = at_literal AtMemory (last_initial before) 109 (is_last_initial before (Memory x.0) x.1) (record { between = refl; texts = refl; memory = refl; version = refl; label = refl; operations = refl; idle = refl })
 by_initial AtMemory least before (inr x) = at_literal AtMemory (last_initial before) 119 (is_last_initial before (Start x.0) x.1) (record { between = refl; texts = refl; memory = refl; version = refl; label = refl; operations = refl; idle = refl })
 by_initial AtTexts least before x = at_literal AtTexts (last_initial before) 116 (is_last_initial before (Quoted x.0) x.1) (record { between = refl; texts = refl; memory = refl; version = refl; label = refl; operations = refl; idle = refl })
@@ -154,13 +154,13 @@ pub start_at : (stage : Stage) (least : ℕ) (before : List (List ℕ)) → At s
 start_at AtStart least before x e = x.0
 start_at stage least before x e = no_test e
 
-pub version_at : (stage : Stage) (least : ℕ) (before : List (List ℕ)) → At stage least before → is_version_stage stage ≡ true → before ≡ text_of Version ∷ []
+pub version_at : (stage : Stage) (least : ℕ) (before : List (List ℕ)) → At stage least before → is_version_stage stage ≡ true → BehindVersion before
 version_at AtVersion least before x e = x.0
 version_at stage least before x e = no_test e
 
 pub start_back : (stage : Stage) (least : ℕ) (before : List (List ℕ)) → At stage least before → before ≡ [] → is_start_stage stage ≡ true
 start_back AtStart least before x e = refl
-start_back AtVersion least before x e = absurd (let h = sym x.0 ∙ e in cc)
+start_back AtVersion least before x e = absurd (let h = sym x.0.is ∙ e in cc)
 start_back AtMemory least before (inl x) e = absurd (let h : 0 ≡ 109 = sym (ap last_initial e) ∙ is_last_initial before (Memory x.0) x.1 in omega (arith, h))
 start_back AtMemory least before (inr x) e = absurd (let h : 0 ≡ 119 = sym (ap last_initial e) ∙ is_last_initial before (Start x.0) x.1 in omega (arith, h))
 start_back AtTexts least before x e = absurd (let h : 0 ≡ 116 = sym (ap last_initial e) ∙ is_last_initial before (Quoted x.0) x.1 in omega (arith, h))
@@ -302,6 +302,10 @@ labels_more marks before text b ls is marked = record {
     stood_by p m lt (inl low) = among_more (place_text p) before text (ls.stood p m low)
     stood_by p m lt (inr high) = let same : p ≡ b = omega (arith, lt, high) in among_last (place_text p) before text (ap place_text same ∙ sym is)
 
+-- a version that stood before still does
+pub version_more : (before : List (List ℕ)) (text : List ℕ) → (v : ℕ) × IsAmong (text_of (Version v)) before → (v : ℕ) × IsAmong (text_of (Version v)) (before ++ text ∷ [])
+version_more before text x = (x.0, among_more (text_of (Version x.0)) before text x.1)
+
 -- one more line behind the header
 pub stands_more : (marks : List Bool) (before : List (List ℕ)) (s : Before) (text : List ℕ) (t : Before) → Stands marks before s → is_open s.stage ≡ true → t.memory ≡ s.memory
     → (initial text ≡ 109 → ⊥) → At t.stage t.least (before ++ text ∷ []) → length t.words ≡ length s.words + one_of (is_word_end text)
@@ -310,7 +314,7 @@ stands_more marks before s text t st opened memory never last words texts labels
   last = last;
   words = words ∙ ap (λ k. k + one_of (is_word_end text)) st.words ∙ sym (word_count_more before text);
   texts = texts ∙ ap (λ k. k + one_of (is_quoted text)) st.texts ∙ sym (text_count_more before text);
-  version_stood = λ _. among_more (text_of Version) before text (st.version_stood (open_no_start s.stage opened));
+  version_stood = λ _. version_more before text (st.version_stood (open_no_start s.stage opened));
   memory_stood = λ _. subst (λ m. IsAmong (text_of (Memory m)) (before ++ text ∷ [])) (sym memory) (among_more (text_of (Memory s.memory)) before text (st.memory_stood opened));
   memory_only = λ n le among. elim (among_split (text_of (Memory n)) before text among) [
     | inl h ↦ st.memory_only n le h ∙ sym memory

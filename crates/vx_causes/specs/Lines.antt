@@ -5,12 +5,13 @@ use Rattle.std.specs.List.{prefix_len}
 use Rattle.std.specs.Str.{bytes_eq}
 use Rattle.vx_isa.specs.declared.operation.Operation.{Operation}
 use Rattle.vx_isa.specs.Range.{fits_signed, fits_operation}
-use Rattle.vx_words.specs.Spelling.{target_of, operation_text, start_text, quoted_text, idle_text, place_text}
+use Rattle.vx_words.specs.Spelling.{target_of, operation_text, version_text, start_text, quoted_text, idle_text, place_text}
 use Rattle.vx_reader.specs.Reading.{has_operands}
 use Rattle.vx_reader.specs.Text.{word_count}
 
 pub data Line : Type 0 where
-  Version : Line
+  -- the version of the text
+  Version : ℕ → Line
   -- the bytes of the memory
   Memory : ℕ → Line
   -- a word of the memory: its address and its value
@@ -26,7 +27,7 @@ pub data Line : Type 0 where
   End : Line
 
 abbrev pub text_of : Line → List ℕ
-text_of Version = codes ".vexwords 1"
+text_of (Version v) = version_text v
 text_of (Memory n) = codes ".memory " ++ decimal n
 text_of (Start entry) = start_text entry
 text_of (Quoted bytes) = quoted_text bytes
@@ -71,6 +72,16 @@ pub record IsNamed (all : List (List ℕ)) (p : ℕ) : Type 0 where
   pub spellable : IsSpellable op
   pub stands : IsAmong (operation_text op) all
   pub names : target_of op ≡ Some p
+
+-- the versions of a text
+abbrev pub IsVersion : ℕ → Type 0
+IsVersion v = (v ≡ 1) ⊎ (v ≡ 2)
+
+-- the version alone stands before
+pub record BehindVersion (before : List (List ℕ)) : Type 0 where
+  pub number : ℕ
+  pub known : IsVersion number
+  pub is : before ≡ text_of (Version number) ∷ []
 
 -- the last line is the size of the memory or a word of it
 pub data InMemory (before : List (List ℕ)) : Type 0 where
@@ -118,8 +129,8 @@ pub data WordEnds (all before : List (List ℕ)) : Type 0 where
 
 -- the line may stand behind these lines in the text of all those
 abbrev pub MayStand : (all before : List (List ℕ)) → Line → Type 0
-MayStand all before Version = before ≡ []
-MayStand all before (Memory n) = (before ≡ text_of Version ∷ []) × (n % 4 ≡ 0) × (n ≤ 134217728)
+MayStand all before (Version v) = (before ≡ []) × IsVersion v
+MayStand all before (Memory n) = BehindVersion before × (n % 4 ≡ 0) × (n ≤ 134217728)
 MayStand all before (Start entry) = StartStands before entry
 MayStand all before (Quoted bytes) = All (λ b. b < 256) bytes × TextsBegin before
 MayStand all before (Label p) = IsBetweenWords before × (p ≡ word_count before) × IsNamed all p

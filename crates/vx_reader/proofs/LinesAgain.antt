@@ -25,7 +25,7 @@ use Rattle.vx_isa.specs.declared.operation.Operation.TheVariants.{Compute, Move,
 use Rattle.vx_isa.specs.Operations.{cluster_of}
 use Rattle.vx_isa.specs.Sound.{can_name, can_name_branch, can_name_cluster, can_spell, is_destination, is_sound_operation}
 use Rattle.vx_reader.specs.declared.quoted.Escape.TheVariants.{Plain}
-use Rattle.vx_words.specs.Spelling.{general_text, branch_text, register_text, source_text, address_text, code_name, trap_number, body_text, operation_text, is_plain, hexadecimal_digit, byte_text, quoted_text, start_text, place_text, idle_text}
+use Rattle.vx_words.specs.Spelling.{general_text, branch_text, register_text, source_text, address_text, code_name, trap_number, body_text, operation_text, is_plain, hexadecimal_digit, byte_text, quoted_text, version_text, start_text, place_text, idle_text}
 use Rattle.vx_reader.specs.Fields.{is_digit}
 use Rattle.vx_isa.specs.Range.{fits_signed, fits_source, fits_operation}
 use Rattle.vx_reader.specs.Steps.{hexadecimal_value, unquoted_from, unquoted}
@@ -182,6 +182,9 @@ operation_is_line total texts op e f =
 
 pub start_is_line : (e : ℕ × ℤ) → e.0 < 2 ^ 64 → fits_signed e.1 ≡ true → IsLine (start_text e)
 start_is_line e small f = join ((codes ".word " ++ decimal e.0) ++ codes " = ") (signed_decimal e.1) (join (codes ".word " ++ decimal e.0) (codes " = ") (join (codes ".word ") (decimal e.0) refl (number_line e.0 small)) refl) (signed_line e.1 f)
+
+pub version_is_line : (v : ℕ) → v < 2 ^ 64 → IsLine (version_text v)
+version_is_line v small = join (codes ".vexwords ") (decimal v) refl (number_line v small)
 
 pub memory_is_line : (m : ℕ) → m < 2 ^ 64 → IsLine (codes ".memory " ++ decimal m)
 memory_is_line m small = join (codes ".memory ") (decimal m) refl (number_line m small)

@@ -240,25 +240,25 @@ marks_at p (suc n) ls zero lt = let e : p + 0 ≡ p = omega arith in rw e refl
 marks_at p (suc n) ls (suc q) lt = let e : p + suc q ≡ p + 1 + q = omega arith in rw e (marks_at (p + 1) n ls q (omega arith))
 
 pub record Finished (marks : List Bool) (total : ℕ) (t : Before) : Type 0 where
-  pub spelled : so_far marks t ≡ body marks t.memory t.start t.texts t.words
+  pub spelled : so_far marks t ≡ body marks t.version t.memory t.start t.texts t.words
   pub ops : t.ops ≡ []
-  pub parts : Parts total t.memory t.least t.start t.texts t.words
+  pub parts : Parts total t.version t.memory t.least t.start t.texts t.words
 
 finished : (marks : List Bool) (total : ℕ) (t : Before) → Good marks total t → is_between_words t.stage ≡ true → Finished marks total t
 finished marks total t = by_cases marks total (λ t. is_between_words t.stage ≡ true → Finished marks total t) t (record {
   start = λ h. absurd (let no : false ≡ true = h in cc);
-  version = λ h. absurd (let no : false ≡ true = h in cc);
-  memory = λ m l st parts h. record { spelled = refl; ops = refl; parts = parts };
-  texts = λ m l st ts parts h. record { spelled = refl; ops = refl; parts = parts };
-  word_end = λ m l st ts ws parts h. record { spelled = refl; ops = refl; parts = parts };
-  label = λ m l st ts ws parts marked h. absurd (let no : false ≡ true = h in cc);
-  operations = λ m l st ts ws ops parts all h. absurd (let no : false ≡ true = h in cc);
-  idle = λ m l st ts ws n parts low high h. absurd (let no : false ≡ true = h in cc);
+  version = λ v known h. absurd (let no : false ≡ true = h in cc);
+  memory = λ v m l st parts h. record { spelled = refl; ops = refl; parts = parts };
+  texts = λ v m l st ts parts h. record { spelled = refl; ops = refl; parts = parts };
+  word_end = λ v m l st ts ws parts h. record { spelled = refl; ops = refl; parts = parts };
+  label = λ v m l st ts ws parts marked h. absurd (let no : false ≡ true = h in cc);
+  operations = λ v m l st ts ws ops parts all h. absurd (let no : false ≡ true = h in cc);
+  idle = λ v m l st ts ws n parts low high h. absurd (let no : false ≡ true = h in cc);
 })
 
-sound_parts : (total m l : ℕ) (st : List (ℕ × ℤ)) (ts : List (List ℕ)) (ws : List Word) → Parts total m l st ts ws → total ≡ length ws
-    → is_sound (record { memory = m; start = st; texts = ts; words = ws }) ≡ true
-sound_parts total m l st ts ws parts count = rw (parts.whole, parts.small, parts.start, ← count, parts.words) refl
+sound_parts : (total v m l : ℕ) (st : List (ℕ × ℤ)) (ts : List (List ℕ)) (ws : List Word) → Parts total v m l st ts ws → total ≡ length ws
+    → is_sound (record { version = v; memory = m; start = st; texts = ts; words = ws }) ≡ true
+sound_parts total v m l st ts ws parts count = rw (parts.version, parts.whole, parts.small, parts.start, ← count, parts.words) refl
 
 mark_is_name : (ls : List (List ℕ)) (total : ℕ) (t : Before) (q : ℕ) → q < total → state_names (0 + q) t ≡ (state_names (0 + q) beginning || list_any (line_names (0 + q)) ls) → t.ops ≡ []
     → get_or (marks_from 0 (total + 1) ls) (0 + q) false ≡ is_named t.words (0 + q)
@@ -279,10 +279,10 @@ lines_spell ls front t joined between runs =
     let named : (q : ℕ) → q < length t.words → get_or marks (0 + q) false ≡ is_named t.words (0 + q) =
     λ q lt. mark_is_name ls total t q (omega (arith, count)) (runs.names (0 + q)) f.ops in
     let words : words_by marks 0 t.words ≡ words_from t.words 0 t.words = words_same marks t.words 0 t.words named in
-    let text : body marks t.memory t.start t.texts t.words ≡ front = sym f.spelled ∙ runs.spelled ∙ joined in
-    let whole : header t.memory ++ flat_map start_line t.start ++ flat_map text_line t.texts ++ words_from t.words 0 t.words ≡ front =
-    ap (λ x. header t.memory ++ flat_map start_line t.start ++ flat_map text_line t.texts ++ x) (sym words) ∙ text in
-    (sound_parts total t.memory t.least t.start t.texts t.words f.parts count, ap (λ x. x ++ line (codes ".end")) (sym whole))
+    let text : body marks t.version t.memory t.start t.texts t.words ≡ front = sym f.spelled ∙ runs.spelled ∙ joined in
+    let whole : header t.version t.memory ++ flat_map start_line t.start ++ flat_map text_line t.texts ++ words_from t.words 0 t.words ≡ front =
+    ap (λ x. header t.version t.memory ++ flat_map start_line t.start ++ flat_map text_line t.texts ++ x) (sym words) ∙ text in
+    (sound_parts total t.version t.memory t.least t.start t.texts t.words f.parts count, ap (λ x. x ++ line (codes ".end")) (sym whole))
 
 abbrev read : WordProgram → Result WordProgram Fault
 read w = Ok w

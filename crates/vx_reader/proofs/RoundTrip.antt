@@ -16,10 +16,10 @@ use Rattle.vx_isa.specs.declared.operation.Operation.TheVariants.{Goto, BranchOn
 use Rattle.vx_isa.specs.declared.program.Word.{Word}
 use Rattle.vx_isa.specs.declared.program.WordProgram.{WordProgram}
 use Rattle.vx_isa.specs.Operations.{cluster_of}
-use Rattle.vx_isa.specs.Sound.{is_start, is_not_zero, is_sound_word, is_sound_operation, is_sound}
+use Rattle.vx_isa.specs.Sound.{is_version, is_start, is_not_zero, is_sound_word, is_sound_operation, is_sound}
 use Rattle.vx_reader.specs.declared.before.Stage.TheVariants.{Version, Memory, WordEnd, Label}
 use Rattle.vx_reader.specs.declared.before.Before.{Before}
-use Rattle.vx_words.specs.Spelling.{line, start_line, start_text, text_line, quoted_text, word_lines, words_from, label_line, place_text, idle_text, operation_text, body_text, names, is_named, spelling, Spells}
+use Rattle.vx_words.specs.Spelling.{line, version_text, start_line, start_text, text_line, quoted_text, word_lines, words_from, label_line, place_text, idle_text, operation_text, body_text, names, is_named, spelling, Spells}
 use Rattle.vx_isa.specs.Range.{fits_signed, fits_operation, is_in_range}
 use Rattle.vx_reader.specs.Steps.{beginning}
 use Rattle.vx_reader.specs.declared.fault.WordsFault.{WordsFault}
@@ -29,8 +29,8 @@ use Rattle.vx_reader.proofs.LineLemmas.{unlines}
 use Rattle.vx_reader.proofs.Advance.{least_behind, shape}
 use Rattle.vx_reader.proofs.ReadLemmas.{or_nothing, marks_at, front_of, reading_spells}
 use Rattle.vx_reader.proofs.OperationsAgain.{operation_again}
-use Rattle.vx_reader.proofs.LinesAgain.{IsLine, cluster_bound, operation_is_line, start_is_line, memory_is_line, place_is_line, idle_is_line, quoted_is_line, lines_again}
-use Rattle.vx_reader.proofs.ProgramAgain.{Leads, stay, follow, first_then, text_stage, version_taken, memory_taken, start_leads, text_leads}
+use Rattle.vx_reader.proofs.LinesAgain.{IsLine, version_is_line, cluster_bound, operation_is_line, start_is_line, memory_is_line, place_is_line, idle_is_line, quoted_is_line, lines_again}
+use Rattle.vx_reader.proofs.ProgramAgain.{Leads, stay, follow, first_then, text_stage, one_or_two, version_taken, memory_taken, start_leads, text_leads}
 use Rattle.vx_reader.proofs.WordsAgain.{no_operations, operation_bytes, operation_begins, own_lines, word_of, opens, word_leads, word_stage, word_stage_more, word_stage_between, word_stage_label, label_taken}
 
 -- the lines of words from place p on
@@ -66,29 +66,29 @@ named_fits p (w ∷ ws) f e =
 abbrev fits_words : List Word → Bool
 fits_words ws = list_all (λ (v : Word). list_all fits_operation v.ops) ws
 
-word_by : (marks : List Bool) (total m l : ℕ) (st : List (ℕ × ℤ)) (ts : List (List ℕ)) (all done : List Word) (w : Word) (named : Bool) → is_named all (length done) ≡ named
+word_by : (marks : List Bool) (total v m l : ℕ) (st : List (ℕ × ℤ)) (ts : List (List ℕ)) (all done : List Word) (w : Word) (named : Bool) → is_named all (length done) ≡ named
     → get_or marks (length done) false ≡ is_named all (length done) → fits_words all ≡ true → is_sound_word total (length ts) w ≡ true → list_all fits_operation w.ops ≡ true
-    → Leads marks total (shape (word_stage ts done) m l st ts done [] 0) ((if is_named all (length done) then place_text (length done) ∷ [] else []) ++ own_lines w.ops w.idle) (shape WordEnd m l st ts (done ++ w ∷ []) [] 0)
-word_by marks total m l st ts all done w true named here fa e f =
+    → Leads marks total (shape (word_stage ts done) v m l st ts done [] 0) ((if is_named all (length done) then place_text (length done) ∷ [] else []) ++ own_lines w.ops w.idle) (shape WordEnd v m l st ts (done ++ w ∷ []) [] 0)
+word_by marks total v m l st ts all done w true named here fa e f =
     let small : length done ≤ 4294967295 = named_fits (length done) all fa named in
-    let label = label_taken marks total m l st ts done small (here ∙ named) in
-    let behind = word_leads marks total m l st ts done Label w.ops w.idle refl e f in
-    let whole : Leads marks total (shape (word_stage ts done) m l st ts done [] 0) (place_text (length done) ∷ own_lines w.ops w.idle) (shape WordEnd m l st ts (done ++ w ∷ []) [] 0) =
-    first_then marks total (shape (word_stage ts done) m l st ts done [] 0) (shape Label m l st ts done [] 0) (shape WordEnd m l st ts (done ++ w ∷ []) [] 0) (place_text (length done)) (own_lines w.ops w.idle) label behind in
-    subst (λ c. Leads marks total (shape (word_stage ts done) m l st ts done [] 0) ((if c then place_text (length done) ∷ [] else []) ++ own_lines w.ops w.idle) (shape WordEnd m l st ts (done ++ w ∷ []) [] 0)) (sym named) whole
-word_by marks total m l st ts all done w false named here fa e f =
+    let label = label_taken marks total v m l st ts done small (here ∙ named) in
+    let behind = word_leads marks total v m l st ts done Label w.ops w.idle refl e f in
+    let whole : Leads marks total (shape (word_stage ts done) v m l st ts done [] 0) (place_text (length done) ∷ own_lines w.ops w.idle) (shape WordEnd v m l st ts (done ++ w ∷ []) [] 0) =
+    first_then marks total (shape (word_stage ts done) v m l st ts done [] 0) (shape Label v m l st ts done [] 0) (shape WordEnd v m l st ts (done ++ w ∷ []) [] 0) (place_text (length done)) (own_lines w.ops w.idle) label behind in
+    subst (λ c. Leads marks total (shape (word_stage ts done) v m l st ts done [] 0) ((if c then place_text (length done) ∷ [] else []) ++ own_lines w.ops w.idle) (shape WordEnd v m l st ts (done ++ w ∷ []) [] 0)) (sym named) whole
+word_by marks total v m l st ts all done w false named here fa e f =
     let unmarked : get_or marks (length done) false ≡ false = here ∙ named in
     let open_here : opens marks (word_stage ts done) done ≡ true = rw (word_stage_label ts done, word_stage_between ts done, unmarked) refl in
-    let whole = word_leads marks total m l st ts done (word_stage ts done) w.ops w.idle open_here e f in
-    subst (λ c. Leads marks total (shape (word_stage ts done) m l st ts done [] 0) ((if c then place_text (length done) ∷ [] else []) ++ own_lines w.ops w.idle) (shape WordEnd m l st ts (done ++ w ∷ []) [] 0)) (sym named) whole
+    let whole = word_leads marks total v m l st ts done (word_stage ts done) w.ops w.idle open_here e f in
+    subst (λ c. Leads marks total (shape (word_stage ts done) v m l st ts done [] 0) ((if c then place_text (length done) ∷ [] else []) ++ own_lines w.ops w.idle) (shape WordEnd v m l st ts (done ++ w ∷ []) [] 0)) (sym named) whole
 
-words_lead : (marks : List Bool) (total m l : ℕ) (st : List (ℕ × ℤ)) (ts : List (List ℕ)) (all done rest : List Word)
+words_lead : (marks : List Bool) (total v m l : ℕ) (st : List (ℕ × ℤ)) (ts : List (List ℕ)) (all done rest : List Word)
     → ((q : ℕ) → q < length rest → get_or marks (length done + q) false ≡ is_named all (length done + q)) → fits_words all ≡ true
     → list_all (is_sound_word total (length ts)) rest ≡ true → fits_words rest ≡ true
-    → Leads marks total (shape (word_stage ts done) m l st ts done [] 0) (lines_of_words all (length done) rest) (shape (word_stage ts (done ++ rest)) m l st ts (done ++ rest) [] 0)
-words_lead marks total m l st ts all done [] same fa e f =
-    subst (λ x. Leads marks total (shape (word_stage ts done) m l st ts done [] 0) [] (shape (word_stage ts x) m l st ts x [] 0)) (sym (append-nil done)) (stay marks total (shape (word_stage ts done) m l st ts done [] 0))
-words_lead marks total m l st ts all done (w ∷ ws) same fa e f =
+    → Leads marks total (shape (word_stage ts done) v m l st ts done [] 0) (lines_of_words all (length done) rest) (shape (word_stage ts (done ++ rest)) v m l st ts (done ++ rest) [] 0)
+words_lead marks total v m l st ts all done [] same fa e f =
+    subst (λ x. Leads marks total (shape (word_stage ts done) v m l st ts done [] 0) [] (shape (word_stage ts x) v m l st ts x [] 0)) (sym (append-nil done)) (stay marks total (shape (word_stage ts done) v m l st ts done [] 0))
+words_lead marks total v m l st ts all done (w ∷ ws) same fa e f =
     let x = both_true (is_sound_word total (length ts) w) (list_all (is_sound_word total (length ts)) ws) e in
     let y = both_true (list_all fits_operation w.ops) (fits_words ws) f in
     let p = length done in
@@ -98,13 +98,13 @@ words_lead marks total m l st ts all done (w ∷ ws) same fa e f =
     let next-is : length (done ++ w ∷ []) ≡ p + 1 = length-append done (w ∷ []) in
     let there : (q : ℕ) → q < length ws → get_or marks (length (done ++ w ∷ []) + q) false ≡ is_named all (length (done ++ w ∷ []) + q) =
     λ q lt. subst (λ k. get_or marks k false ≡ is_named all k) (let h : p + suc q ≡ length (done ++ w ∷ []) + q = omega (arith, next-is) in h) (same (suc q) (omega arith)) in
-    let rest = words_lead marks total m l st ts all (done ++ w ∷ []) ws there fa x.1 y.1 in
-    let along = subst (λ v. Leads marks total (shape (word_stage ts (done ++ w ∷ [])) m l st ts (done ++ w ∷ []) [] 0) (lines_of_words all (length (done ++ w ∷ [])) ws) (shape (word_stage ts v) m l st ts v [] 0)) (append_assoc done (w ∷ []) ws) rest in
-    let placed = subst (λ k. Leads marks total (shape (word_stage ts (done ++ w ∷ [])) m l st ts (done ++ w ∷ []) [] 0) (lines_of_words all k ws) (shape (word_stage ts (done ++ w ∷ ws)) m l st ts (done ++ w ∷ ws) [] 0)) next-is along in
-    let staged = subst (λ stage. Leads marks total (shape stage m l st ts (done ++ w ∷ []) [] 0) (lines_of_words all (p + 1) ws) (shape (word_stage ts (done ++ w ∷ ws)) m l st ts (done ++ w ∷ ws) [] 0)) (word_stage_more ts done w) placed in
-    let one : Leads marks total (shape (word_stage ts done) m l st ts done [] 0) ((if is_named all p then place_text p ∷ [] else []) ++ own_lines w.ops w.idle) (shape WordEnd m l st ts (done ++ w ∷ []) [] 0) =
-    word_by marks total m l st ts all done w (is_named all p) refl here fa x.0 y.0 in
-    follow marks total (shape (word_stage ts done) m l st ts done [] 0) (shape WordEnd m l st ts (done ++ w ∷ []) [] 0) (shape (word_stage ts (done ++ w ∷ ws)) m l st ts (done ++ w ∷ ws) [] 0)
+    let rest = words_lead marks total v m l st ts all (done ++ w ∷ []) ws there fa x.1 y.1 in
+    let along = subst (λ x. Leads marks total (shape (word_stage ts (done ++ w ∷ [])) v m l st ts (done ++ w ∷ []) [] 0) (lines_of_words all (length (done ++ w ∷ [])) ws) (shape (word_stage ts x) v m l st ts x [] 0)) (append_assoc done (w ∷ []) ws) rest in
+    let placed = subst (λ k. Leads marks total (shape (word_stage ts (done ++ w ∷ [])) v m l st ts (done ++ w ∷ []) [] 0) (lines_of_words all k ws) (shape (word_stage ts (done ++ w ∷ ws)) v m l st ts (done ++ w ∷ ws) [] 0)) next-is along in
+    let staged = subst (λ stage. Leads marks total (shape stage v m l st ts (done ++ w ∷ []) [] 0) (lines_of_words all (p + 1) ws) (shape (word_stage ts (done ++ w ∷ ws)) v m l st ts (done ++ w ∷ ws) [] 0)) (word_stage_more ts done w) placed in
+    let one : Leads marks total (shape (word_stage ts done) v m l st ts done [] 0) ((if is_named all p then place_text p ∷ [] else []) ++ own_lines w.ops w.idle) (shape WordEnd v m l st ts (done ++ w ∷ []) [] 0) =
+    word_by marks total v m l st ts all done w (is_named all p) refl here fa x.0 y.0 in
+    follow marks total (shape (word_stage ts done) v m l st ts done [] 0) (shape WordEnd v m l st ts (done ++ w ∷ []) [] 0) (shape (word_stage ts (done ++ w ∷ ws)) v m l st ts (done ++ w ∷ ws) [] 0)
     ((if is_named all p then place_text p ∷ [] else []) ++ own_lines w.ops w.idle) (lines_of_words all (p + 1) ws) one staged
 
 -- what lines say: which places they name, how many words they end, and that none holds a line feed
@@ -230,7 +230,7 @@ words_say total texts all p (w ∷ ws) fa e f =
 -- the lines of a program
 
 abbrev lines_of : WordProgram → List (List ℕ)
-lines_of w = codes ".vexwords 1" ∷ (codes ".memory " ++ decimal w.memory) ∷ ((map start_text w.start ++ map quoted_text w.texts) ++ lines_of_words w.words 0 w.words)
+lines_of w = version_text w.version ∷ (codes ".memory " ++ decimal w.memory) ∷ ((map start_text w.start ++ map quoted_text w.texts) ++ lines_of_words w.words 0 w.words)
 
 joined_map : {X : Type 0} (f : X → List ℕ) (xs : List X) → unlines (map f xs) ≡ flat_map (λ x. line (f x)) xs
 joined_map f [] = refl
@@ -269,11 +269,12 @@ spelled_by_lines w =
     flat_map-append line (S ++ T) W
     ∙ ap (λ t. t ++ unlines W) (flat_map-append line S T ∙ ap (λ t. t ++ unlines T) (joined_map start_text w.start) ∙ ap (λ t. flat_map start_line w.start ++ t) (joined_map quoted_text w.texts))
     ∙ ap (λ t. (flat_map start_line w.start ++ flat_map text_line w.texts) ++ t) (joined_words w.words 0 w.words) in
-    ap (λ t. (line (codes ".vexwords 1") ++ (line (codes ".memory " ++ decimal w.memory) ++ t)) ++ line (codes ".end")) middle
-    ∙ regroup_program (line (codes ".vexwords 1")) (line (codes ".memory " ++ decimal w.memory)) (flat_map start_line w.start) (flat_map text_line w.texts) (words_from w.words 0 w.words) (line (codes ".end"))
+    ap (λ t. (line (version_text w.version) ++ (line (codes ".memory " ++ decimal w.memory) ++ t)) ++ line (codes ".end")) middle
+    ∙ regroup_program (line (version_text w.version)) (line (codes ".memory " ++ decimal w.memory)) (flat_map start_line w.start) (flat_map text_line w.texts) (words_from w.words 0 w.words) (line (codes ".end"))
 
 -- what is asked of a program, part by part
 pub record IsFit (w : WordProgram) : Type 0 where
+  pub version : is_version w.version ≡ true
   pub whole : nat_eq (w.memory % 4) 0 ≡ true
   pub small : nat_le w.memory 134217728 ≡ true
   pub start : is_start w.memory 0 w.start ≡ true
@@ -284,12 +285,16 @@ pub record IsFit (w : WordProgram) : Type 0 where
 
 fit_parts : (w : WordProgram) → is_sound w ≡ true → is_in_range w ≡ true → IsFit w
 fit_parts w e f =
-    let a = both_true (nat_eq (w.memory % 4) 0 && nat_le w.memory 134217728 && is_start w.memory 0 w.start) (list_all (is_sound_word (length w.words) (length w.texts)) w.words) e in
-    let b = both_true (nat_eq (w.memory % 4) 0 && nat_le w.memory 134217728) (is_start w.memory 0 w.start) a.0 in
-    let c = both_true (nat_eq (w.memory % 4) 0) (nat_le w.memory 134217728) b.0 in
+    let a = both_true (is_version w.version && nat_eq (w.memory % 4) 0 && nat_le w.memory 134217728 && is_start w.memory 0 w.start) (list_all (is_sound_word (length w.words) (length w.texts)) w.words) e in
+    let b = both_true (is_version w.version && nat_eq (w.memory % 4) 0 && nat_le w.memory 134217728) (is_start w.memory 0 w.start) a.0 in
+    let c = both_true (is_version w.version && nat_eq (w.memory % 4) 0) (nat_le w.memory 134217728) b.0 in
+    let d = both_true (is_version w.version) (nat_eq (w.memory % 4) 0) c.0 in
     let x = both_true (list_all (λ (e : ℕ × ℤ). fits_signed e.1) w.start && list_all (list_all (λ c. nat_lt c 256)) w.texts) (fits_words w.words) f in
     let y = both_true (list_all (λ (e : ℕ × ℤ). fits_signed e.1) w.start) (list_all (list_all (λ c. nat_lt c 256)) w.texts) x.0 in
-    record { whole = c.0; small = c.1; start = b.1; words = a.1; start_fits = y.0; texts_fit = y.1; words_fit = x.1 }
+    record { version = d.0; whole = d.1; small = c.1; start = b.1; words = a.1; start_fits = y.0; texts_fit = y.1; words_fit = x.1 }
+
+version_small : (v : ℕ) → is_version v ≡ true → v < 2 ^ 64
+version_small v known = elim (one_or_two v known) [ inl e ↦ omega (arith, e) | inr e ↦ omega (arith, e) ]
 
 program_says : (w : WordProgram) → IsFit w → Says (lines_of w) (λ p. is_named w.words p) (length w.words)
 unfolding line_operation
@@ -302,16 +307,17 @@ program_says w fit =
     let rest = says_append (S ++ T) W (λ p. false || false) (λ p. is_named w.words p) (0 + 0) (length w.words) front (words_say (length w.words) (length w.texts) w.words 0 w.words fit.words_fit fit.words fit.words_fit) in
     let plain = says_as ((S ++ T) ++ W) (λ p. (false || false) || is_named w.words p) (λ p. is_named w.words p) (0 + 0 + length w.words) (length w.words) (λ p. refl) (zero_more (length w.words)) rest in
     let one = quiet_more (codes ".memory " ++ decimal w.memory) ((S ++ T) ++ W) (λ p. is_named w.words p) (length w.words) (λ p. refl) refl (memory_is_line w.memory (omega arith)) plain in
-    quiet_more (codes ".vexwords 1") ((codes ".memory " ++ decimal w.memory) ∷ ((S ++ T) ++ W)) (λ p. is_named w.words p) (length w.words) (λ p. refl) refl refl one
+    quiet_more (version_text w.version) ((codes ".memory " ++ decimal w.memory) ∷ ((S ++ T) ++ W)) (λ p. is_named w.words p) (length w.words) (λ p. refl) refl (version_is_line w.version (version_small w.version fit.version)) one
 
 abbrev last_state : WordProgram → Before
-last_state w = shape (word_stage w.texts w.words) w.memory (least_behind 0 w.start) w.start w.texts w.words [] 0
+last_state w = shape (word_stage w.texts w.words) w.version w.memory (least_behind 0 w.start) w.start w.texts w.words [] 0
 
 program_leads : (w : WordProgram) → IsFit w → Says (lines_of w) (λ p. is_named w.words p) (length w.words)
     → Leads (marks_from 0 (word_count (lines_of w) + 1) (lines_of w)) (word_count (lines_of w)) beginning (lines_of w) (last_state w)
 program_leads w fit says =
     let total = word_count (lines_of w) in
     let marks = marks_from 0 (total + 1) (lines_of w) in
+    let v = w.version in
     let m = w.memory in
     let l = least_behind 0 w.start in
     let small : m ≤ 134217728 = leb-true _ _ fit.small in
@@ -319,19 +325,19 @@ program_leads w fit says =
     let sound : list_all (is_sound_word total (length w.texts)) w.words ≡ true = subst (λ k. list_all (is_sound_word k (length w.texts)) w.words ≡ true) (sym count) fit.words in
     let marked : (q : ℕ) → q < length w.words → get_or marks (0 + q) false ≡ is_named w.words (0 + q) =
     λ q lt. ap (λ k. get_or marks k false) (zero_more q) ∙ marks_at 0 (total + 1) (lines_of w) q (omega (arith, count)) ∙ says.named (0 + q) in
-    let starts = start_leads marks total m 0 [] w.start small fit.start fit.start_fits in
-    let texts = text_leads marks total m l w.start [] w.texts fit.texts_fit in
-    let words = words_lead marks total m l w.start w.texts w.words [] w.words marked fit.words_fit sound fit.words_fit in
+    let starts = start_leads marks total v m 0 [] w.start small fit.start fit.start_fits in
+    let texts = text_leads marks total v m l w.start [] w.texts fit.texts_fit in
+    let words = words_lead marks total v m l w.start w.texts w.words [] w.words marked fit.words_fit sound fit.words_fit in
     let S = map start_text w.start in
     let T = map quoted_text w.texts in
     let W = lines_of_words w.words 0 w.words in
-    let at_memory = shape Memory m 0 [] [] [] [] 0 in
-    let at_texts = shape Memory m l w.start [] [] [] 0 in
-    let at_words = shape (text_stage w.texts) m l w.start w.texts [] [] 0 in
+    let at_memory = shape Memory v m 0 [] [] [] [] 0 in
+    let at_texts = shape Memory v m l w.start [] [] [] 0 in
+    let at_words = shape (text_stage w.texts) v m l w.start w.texts [] [] 0 in
     let header_texts = follow marks total at_memory at_texts at_words S T starts texts in
     let rest = follow marks total at_memory at_words (last_state w) (S ++ T) W header_texts words in
-    let second = first_then marks total (shape Version 0 0 [] [] [] [] 0) at_memory (last_state w) (codes ".memory " ++ decimal m) ((S ++ T) ++ W) (memory_taken marks total m fit.whole fit.small) rest in
-    first_then marks total beginning (shape Version 0 0 [] [] [] [] 0) (last_state w) (codes ".vexwords 1") ((codes ".memory " ++ decimal m) ∷ ((S ++ T) ++ W)) (version_taken marks total) second
+    let second = first_then marks total (shape Version v 0 0 [] [] [] [] 0) at_memory (last_state w) (codes ".memory " ++ decimal m) ((S ++ T) ++ W) (memory_taken marks total v m fit.whole fit.small) rest in
+    first_then marks total beginning (shape Version v 0 0 [] [] [] [] 0) (last_state w) (version_text w.version) ((codes ".memory " ++ decimal m) ∷ ((S ++ T) ++ W)) (version_taken marks total v fit.version) second
 
 -- the last byte of joined lines
 last_feed : (l : List ℕ) (ls : List (List ℕ)) → (xs : List ℕ) × (unlines (l ∷ ls) ≡ xs ++ 10 ∷ [])
@@ -367,7 +373,7 @@ reading_again w e f =
     let says = program_says w fit in
     let front = unlines (lines_of w) in
     let split : spelling w ≡ front ++ line (codes ".end") = sym (spelled_by_lines w) in
-    let feed = last_feed (codes ".vexwords 1") ((codes ".memory " ++ decimal w.memory) ∷ ((map start_text w.start ++ map quoted_text w.texts) ++ lines_of_words w.words 0 w.words)) in
+    let feed = last_feed (version_text w.version) ((codes ".memory " ++ decimal w.memory) ∷ ((map start_text w.start ++ map quoted_text w.texts) ++ lines_of_words w.words 0 w.words)) in
     let whole : spelling w ≡ feed.0 ++ end_bytes = split ∙ ap (λ x. x ++ line (codes ".end")) feed.1 ∙ append_assoc feed.0 (10 ∷ []) (line (codes ".end")) in
     reading_lines (spelling w) front split (ends_there (spelling w) feed.0 whole) ∙ ap read_lines (lines_again (lines_of w) says.plain) ∙ lines_read w fit
 

@@ -1,6 +1,7 @@
 -- Each kind of line that is taken adds its text to what stood before.
 use Rattle.std.proofs.Common.{◌≡◌, ℕ, suc, ◌+◌, ◌%◌, ◌^◌, ◌<◌, ◌≤◌, ℤ, Bool, true, false, ◌&&◌, ◌||◌, List, [], ◌∷◌, ◌++◌, length, get_or, take, drop, Result, Ok, Err, refl, sym, ap, subst, ◌∙◌, append_assoc, arith}
 use Rattle.std.specs.Prelude.{decimal, nat_eq, nat_lt, nat_le, codes, if◌then◌else◌, not}
+use Rattle.std.specs.Fmt.{digits}
 use Rattle.std.specs.List.{flat_map, list_all, prefix_len}
 use Rattle.std.specs.Str.{bytes_eq}
 use Rattle.std.proofs.lemmas.Slice.Eq.{bytes_eq-Decides}
@@ -14,17 +15,17 @@ use Rattle.std.proofs.lemmas.List.{length-take, length-drop}
 use Rattle.vx_reader.specs.Fields.{is_digit}
 use Rattle.vx_isa.specs.declared.operation.Operation.{Operation}
 use Rattle.vx_isa.specs.declared.program.Word.{Word}
-use Rattle.vx_isa.specs.Sound.{is_start, is_sound_word, is_sound_operation, is_not_zero}
+use Rattle.vx_isa.specs.Sound.{is_version, is_start, is_sound_word, is_sound_operation, is_not_zero}
 use Rattle.vx_reader.specs.declared.before.Stage.TheVariants.{Version, Memory, Texts, WordEnd, Label, Operations, Idle}
 use Rattle.vx_reader.specs.declared.before.Before.{Before}
-use Rattle.vx_words.specs.Spelling.{line, header, start_line, start_text, text_line, quoted_text, word_lines, label_line, place_text, operation_line, operation_text, idle_text}
+use Rattle.vx_words.specs.Spelling.{line, version_text, header, start_line, start_text, text_line, quoted_text, word_lines, label_line, place_text, operation_line, operation_text, idle_text}
 use Rattle.vx_reader.specs.Fields.{number_at}
 use Rattle.vx_reader.specs.Reading.{is_number, is_field}
 use Rattle.vx_isa.specs.Operations.{cluster_of}
 use Rattle.vx_reader.specs.Reading.{has_operands, texts_named, operation_of}
 use Rattle.vx_reader.proofs.OperationLemmas.{body_spelled, operation_spelled, sound_operation}
 use Rattle.vx_reader.specs.Steps.{is_beyond, begins_word, is_operations_stage, operation_by_stage, operation_added, operation_step, is_operation_line, line_cluster}
-use Rattle.vx_reader.specs.Steps.{beginning, accepted, value_from, is_size, entry_at, unquoted, version_step, memory_step, start_step, text_step, label_stood, label_by, label_step, idle_step, word_end_step}
+use Rattle.vx_reader.specs.Steps.{beginning, accepted, value_from, is_size, entry_at, unquoted, is_version_line, version_of, version_step, memory_step, start_step, text_step, label_stood, label_by, label_step, idle_step, word_end_step}
 use Rattle.vx_reader.proofs.Numbers.{own, both_true, is_number_digits}
 use Rattle.vx_reader.proofs.LineLemmas.{field_then}
 use Rattle.vx_reader.proofs.Advance.{words_by, label_at, body, so_far, least_behind, Parts, shape, Good, at_version, at_memory, at_texts, at_word_end, at_label, at_operations, at_idle, by_cases, Extends, accepted_ok}
@@ -68,19 +69,43 @@ words_more marks p (v ∷ vs) w =
 
 -- the version
 
+-- the versions, each with its line
+pub first_version : version_text 1 ≡ codes ".vexwords 1"
+unfolding digits
+first_version = refl
+
+pub second_version : version_text 2 ≡ codes ".vexwords 2"
+unfolding digits
+second_version = refl
+
+either_line : (b c : Bool) → (b || c) ≡ true → c ≡ false → b ≡ true
+either_line true c e f = refl
+either_line false c e f = sym f ∙ e
+
+-- the line of a version is the text of the version that it says
+pub version_written : (text : List ℕ) → is_version_line text ≡ true → (text ≡ version_text (version_of text)) × (is_version (version_of text) ≡ true)
+version_written text e = written_by (bytes_eq text (codes ".vexwords 2")) refl
+  where
+    written_by : (b : Bool) → bytes_eq text (codes ".vexwords 2") ≡ b → (text ≡ version_text (if b then 2 else 1)) × (is_version (if b then 2 else 1) ≡ true)
+    written_by true t = (is_same_text text (codes ".vexwords 2") t ∙ sym second_version, refl)
+    written_by false t =
+        let first = either_line (bytes_eq text (codes ".vexwords 1")) (bytes_eq text (codes ".vexwords 2")) e t in
+        (is_same_text text (codes ".vexwords 1") first ∙ sym first_version, refl)
+
 pub version_extends : (marks : List Bool) (total : ℕ) (text : List ℕ) (t : Before) (s : Before) → Good marks total s → version_step s text ≡ Ok t → Extends marks total s text t
 unfolding version_step
 version_extends marks total text t s = by_cases marks total (λ s. version_step s text ≡ Ok t → Extends marks total s text t) s (record {
   start = λ h.
-      let a = accepted_ok (bytes_eq text (codes ".vexwords 1")) (record beginning { stage = Version }) t h in
-      subst (Extends marks total beginning text) a.1 (record { spelled = ap line (sym (is_same_text text (codes ".vexwords 1") a.0)); good = at_version refl; words = refl; ops = refl });
-  version = λ h. never 5 t h;
-  memory = λ m l st parts h. never 5 t h;
-  texts = λ m l st ts parts h. never 5 t h;
-  word_end = λ m l st ts ws parts h. never 5 t h;
-  label = λ m l st ts ws parts marked h. never 5 t h;
-  operations = λ m l st ts ws ops parts all h. never 5 t h;
-  idle = λ m l st ts ws n parts low high h. never 5 t h;
+      let a = accepted_ok (is_version_line text) (record beginning { stage = Version; version = version_of text }) t h in
+      let b = version_written text a.0 in
+      subst (Extends marks total beginning text) a.1 (record { spelled = ap line (sym b.0); good = at_version (version_of text) b.1 refl; words = refl; ops = refl });
+  version = λ v known h. never 5 t h;
+  memory = λ v m l st parts h. never 5 t h;
+  texts = λ v m l st ts parts h. never 5 t h;
+  word_end = λ v m l st ts ws parts h. never 5 t h;
+  label = λ v m l st ts ws parts marked h. never 5 t h;
+  operations = λ v m l st ts ws ops parts all h. never 5 t h;
+  idle = λ v m l st ts ws n parts low high h. never 5 t h;
 })
 
 -- the size of the memory
@@ -118,28 +143,28 @@ regroup_start H A X = simp (append_assoc, append-nil)
 regroup_text : (H B X : List ℕ) → (H ++ (B ++ (X ++ []))) ++ [] ≡ ((H ++ B) ++ []) ++ X
 regroup_text H B X = simp (append_assoc, append-nil)
 
-memory_text : (marks : List Bool) (v : ℕ) (digits text : List ℕ) → decimal v ≡ digits → text ≡ codes ".memory" ++ 32 ∷ digits
-    → body marks v [] [] [] ≡ line (codes ".vexwords 1") ++ line text
-memory_text marks v digits text written split =
-    three_nils (header v) ∙ ap (λ x. line (codes ".vexwords 1") ++ line x) (ap (λ d. codes ".memory " ++ d) written ∙ sym split)
+memory_text : (marks : List Bool) (v m : ℕ) (digits text : List ℕ) → decimal m ≡ digits → text ≡ codes ".memory" ++ 32 ∷ digits
+    → body marks v m [] [] [] ≡ line (version_text v) ++ line text
+memory_text marks v m digits text written split =
+    three_nils (header v m) ∙ ap (λ x. line (version_text v) ++ line x) (ap (λ d. codes ".memory " ++ d) written ∙ sym split)
 
-start_body : (marks : List Bool) (m : ℕ) (st : List (ℕ × ℤ)) (e : ℕ × ℤ) → body marks m (st ++ e ∷ []) [] [] ≡ body marks m st [] [] ++ start_line e
-start_body marks m st e =
-    ap (λ A. header m ++ A ++ [] ++ []) (flat_map-append start_line st (e ∷ [])) ∙ regroup_start (header m) (flat_map start_line st) (start_line e)
+start_body : (marks : List Bool) (v m : ℕ) (st : List (ℕ × ℤ)) (e : ℕ × ℤ) → body marks v m (st ++ e ∷ []) [] [] ≡ body marks v m st [] [] ++ start_line e
+start_body marks v m st e =
+    ap (λ A. header v m ++ A ++ [] ++ []) (flat_map-append start_line st (e ∷ [])) ∙ regroup_start (header v m) (flat_map start_line st) (start_line e)
 
-text_body : (marks : List Bool) (m : ℕ) (st : List (ℕ × ℤ)) (ts : List (List ℕ)) (bytes : List ℕ) → body marks m st (ts ++ bytes ∷ []) [] ≡ body marks m st ts [] ++ text_line bytes
-text_body marks m st ts bytes =
-    ap (λ B. header m ++ flat_map start_line st ++ B ++ []) (flat_map-append text_line ts (bytes ∷ []))
-    ∙ regroup_text (header m ++ flat_map start_line st) (flat_map text_line ts) (text_line bytes)
+text_body : (marks : List Bool) (v m : ℕ) (st : List (ℕ × ℤ)) (ts : List (List ℕ)) (bytes : List ℕ) → body marks v m st (ts ++ bytes ∷ []) [] ≡ body marks v m st ts [] ++ text_line bytes
+text_body marks v m st ts bytes =
+    ap (λ B. header v m ++ flat_map start_line st ++ B ++ []) (flat_map-append text_line ts (bytes ∷ []))
+    ∙ regroup_text (header v m ++ flat_map start_line st) (flat_map text_line ts) (text_line bytes)
 
-word_body : (marks : List Bool) (m : ℕ) (st : List (ℕ × ℤ)) (ts : List (List ℕ)) (ws : List Word) (w : Word)
-    → body marks m st ts (ws ++ w ∷ []) ≡ body marks m st ts ws ++ (label_at marks (length ws) ++ word_lines w)
-word_body marks m st ts ws w =
+word_body : (marks : List Bool) (v m : ℕ) (st : List (ℕ × ℤ)) (ts : List (List ℕ)) (ws : List Word) (w : Word)
+    → body marks v m st ts (ws ++ w ∷ []) ≡ body marks v m st ts ws ++ (label_at marks (length ws) ++ word_lines w)
+word_body marks v m st ts ws w =
     let e : 0 + length ws ≡ length ws = omega arith in
     let more : words_by marks 0 (ws ++ w ∷ []) ≡ words_by marks 0 ws ++ (label_at marks (length ws) ++ word_lines w) =
     words_more marks 0 ws w ∙ ap (λ k. words_by marks 0 ws ++ (label_at marks k ++ word_lines w)) e in
-    ap (λ C. header m ++ flat_map start_line st ++ flat_map text_line ts ++ C) more
-    ∙ sym (append_assoc (header m ++ flat_map start_line st ++ flat_map text_line ts) (words_by marks 0 ws) (label_at marks (length ws) ++ word_lines w))
+    ap (λ C. header v m ++ flat_map start_line st ++ flat_map text_line ts ++ C) more
+    ∙ sym (append_assoc (header v m ++ flat_map start_line st ++ flat_map text_line ts) (words_by marks 0 ws) (label_at marks (length ws) ++ word_lines w))
 
 pub memory_extends : (marks : List Bool) (total : ℕ) (text : List ℕ) (t : Before) (s : Before) → Good marks total s → take (prefix_len is_field text) text ≡ codes ".memory"
     → memory_step s (drop 8 text) ≡ Ok t → Extends marks total s text t
@@ -150,9 +175,9 @@ memory_extends marks total text t s good field = by_cases marks total (λ s. mem
       let a = two_tests (is_size digits && nat_lt 134217728 (value_from 0 digits)) (is_size digits && false) (record beginning { stage = Memory; memory = value_from 0 digits }) t h in
       let b = both_true (is_size digits) false a.1 in
       absurd (let no : false ≡ true = b.1 in cc);
-  version = λ h.
+  version = λ v known h.
       let digits = drop 8 text in
-      let a = two_tests (is_size digits && nat_lt 134217728 (value_from 0 digits)) (is_size digits && true) (shape Memory (value_from 0 digits) 0 [] [] [] [] 0) t h in
+      let a = two_tests (is_size digits && nat_lt 134217728 (value_from 0 digits)) (is_size digits && true) (shape Memory v (value_from 0 digits) 0 [] [] [] [] 0) t h in
       let size : is_size digits ≡ true = (both_true (is_size digits) true a.1).0 in
       let whole : nat_eq (value_from 0 digits % 4) 0 ≡ true = (both_true (is_number digits) (nat_eq (value_from 0 digits % 4) 0) size).1 in
       let near : nat_lt 134217728 (value_from 0 digits) ≡ false = rw size at a.0 in
@@ -160,19 +185,19 @@ memory_extends marks total text t s good field = by_cases marks total (λ s. mem
       let written : decimal (value_from 0 digits) ≡ digits = size_written digits size (omega arith) in
       let some : 0 < length digits = is_number_some digits (both_true (is_number digits) (nat_eq (value_from 0 digits % 4) 0) size).0 in
       let split : text ≡ codes ".memory" ++ 32 ∷ digits = seven_then text (codes ".memory") refl field some in
-      let parts : Parts total (value_from 0 digits) 0 [] [] [] = record { whole = whole; small = le-leb _ _ bound; start = refl; least = refl; words = refl } in
-      subst (Extends marks total (shape Version 0 0 [] [] [] [] 0) text) a.2 (record {
-        spelled = memory_text marks (value_from 0 digits) digits text written split;
-        good = at_memory (value_from 0 digits) 0 [] parts refl;
+      let parts : Parts total v (value_from 0 digits) 0 [] [] [] = record { version = known; whole = whole; small = le-leb _ _ bound; start = refl; least = refl; words = refl } in
+      subst (Extends marks total (shape Version v 0 0 [] [] [] [] 0) text) a.2 (record {
+        spelled = memory_text marks v (value_from 0 digits) digits text written split;
+        good = at_memory v (value_from 0 digits) 0 [] parts refl;
         words = refl;
         ops = refl;
       });
-  memory = λ m l st parts h. never 5 t h;
-  texts = λ m l st ts parts h. never 5 t h;
-  word_end = λ m l st ts ws parts h. never 5 t h;
-  label = λ m l st ts ws parts marked h. never 5 t h;
-  operations = λ m l st ts ws ops parts all h. never 5 t h;
-  idle = λ m l st ts ws n parts low high h. never 5 t h;
+  memory = λ v m l st parts h. never 5 t h;
+  texts = λ v m l st ts parts h. never 5 t h;
+  word_end = λ v m l st ts ws parts h. never 5 t h;
+  label = λ v m l st ts ws parts marked h. never 5 t h;
+  operations = λ v m l st ts ws ops parts all h. never 5 t h;
+  idle = λ v m l st ts ws n parts low high h. never 5 t h;
 }) good
 
 -- a word of the memory
@@ -181,43 +206,43 @@ pub start_extends : (marks : List Bool) (total : ℕ) (text : List ℕ) (t : Bef
 unfolding start_step
 start_extends marks total text t s = by_cases marks total (λ s. start_step s text ≡ Ok t → Extends marks total s text t) s (record {
   start = λ h. never 1 t h;
-  version = λ h. never 1 t h;
-  memory = λ m l st parts h.
+  version = λ v known h. never 1 t h;
+  memory = λ v m l st parts h.
       let e = entry_at text in
-      let a = accepted_ok (nat_le l e.0 && nat_eq (e.0 % 4) 0 && nat_lt e.0 m && is_not_zero e.1 && bytes_eq (start_text e) text) (shape Memory m (e.0 + 1) (st ++ e ∷ []) [] [] [] 0) t h in
+      let a = accepted_ok (nat_le l e.0 && nat_eq (e.0 % 4) 0 && nat_lt e.0 m && is_not_zero e.1 && bytes_eq (start_text e) text) (shape Memory v m (e.0 + 1) (st ++ e ∷ []) [] [] [] 0) t h in
       let b1 = both_true (nat_le l e.0 && nat_eq (e.0 % 4) 0 && nat_lt e.0 m && is_not_zero e.1) (bytes_eq (start_text e) text) a.0 in
       let b2 = both_true (nat_le l e.0 && nat_eq (e.0 % 4) 0 && nat_lt e.0 m) (is_not_zero e.1) b1.0 in
       let b3 = both_true (nat_le l e.0 && nat_eq (e.0 % 4) 0) (nat_lt e.0 m) b2.0 in
       let b4 = both_true (nat_le l e.0) (nat_eq (e.0 % 4) 0) b3.0 in
       let least : nat_le (least_behind 0 st) e.0 ≡ true = rw parts.least b4.0 in
-      let more : Parts total m (e.0 + 1) (st ++ e ∷ []) [] [] = record { whole = parts.whole; small = parts.small; start = start_more m 0 st e parts.start least b4.1 b3.1 b2.1; least = least_more 0 st e; words = refl } in
+      let more : Parts total v m (e.0 + 1) (st ++ e ∷ []) [] [] = record { version = parts.version; whole = parts.whole; small = parts.small; start = start_more m 0 st e parts.start least b4.1 b3.1 b2.1; least = least_more 0 st e; words = refl } in
       let same : start_text e ≡ text = is_same_text (start_text e) text b1.1 in
-      subst (Extends marks total (shape Memory m l st [] [] [] 0) text) a.1 (record {
-        spelled = subst (λ x. body marks m (st ++ e ∷ []) [] [] ≡ body marks m st [] [] ++ line x) same (start_body marks m st e);
-        good = at_memory m (e.0 + 1) (st ++ e ∷ []) more refl;
+      subst (Extends marks total (shape Memory v m l st [] [] [] 0) text) a.1 (record {
+        spelled = subst (λ x. body marks v m (st ++ e ∷ []) [] [] ≡ body marks v m st [] [] ++ line x) same (start_body marks v m st e);
+        good = at_memory v m (e.0 + 1) (st ++ e ∷ []) more refl;
         words = refl;
         ops = refl;
       });
-  texts = λ m l st ts parts h. never 1 t h;
-  word_end = λ m l st ts ws parts h. never 1 t h;
-  label = λ m l st ts ws parts marked h. never 1 t h;
-  operations = λ m l st ts ws ops parts all h. never 1 t h;
-  idle = λ m l st ts ws n parts low high h. never 1 t h;
+  texts = λ v m l st ts parts h. never 1 t h;
+  word_end = λ v m l st ts ws parts h. never 1 t h;
+  label = λ v m l st ts ws parts marked h. never 1 t h;
+  operations = λ v m l st ts ws ops parts all h. never 1 t h;
+  idle = λ v m l st ts ws n parts low high h. never 1 t h;
 })
 
 -- a text
 
-text_from : (marks : List Bool) (total m l : ℕ) (st : List (ℕ × ℤ)) (ts : List (List ℕ)) (text : List ℕ) (s t : Before) → Parts total m l st ts []
-    → s.words ≡ [] → s.ops ≡ [] → so_far marks s ≡ body marks m st ts []
-    → accepted (bytes_eq (quoted_text (unquoted text)) text) (shape Texts m l st (ts ++ unquoted text ∷ []) [] [] 0) ≡ Ok t → Extends marks total s text t
-text_from marks total m l st ts text s t parts words ops before h =
+text_from : (marks : List Bool) (total v m l : ℕ) (st : List (ℕ × ℤ)) (ts : List (List ℕ)) (text : List ℕ) (s t : Before) → Parts total v m l st ts []
+    → s.words ≡ [] → s.ops ≡ [] → so_far marks s ≡ body marks v m st ts []
+    → accepted (bytes_eq (quoted_text (unquoted text)) text) (shape Texts v m l st (ts ++ unquoted text ∷ []) [] [] 0) ≡ Ok t → Extends marks total s text t
+text_from marks total v m l st ts text s t parts words ops before h =
     let bytes = unquoted text in
-    let a = accepted_ok (bytes_eq (quoted_text bytes) text) (shape Texts m l st (ts ++ bytes ∷ []) [] [] 0) t h in
+    let a = accepted_ok (bytes_eq (quoted_text bytes) text) (shape Texts v m l st (ts ++ bytes ∷ []) [] [] 0) t h in
     let same : quoted_text bytes ≡ text = is_same_text (quoted_text bytes) text a.0 in
-    let more : Parts total m l st (ts ++ bytes ∷ []) [] = record { whole = parts.whole; small = parts.small; start = parts.start; least = parts.least; words = refl } in
+    let more : Parts total v m l st (ts ++ bytes ∷ []) [] = record { version = parts.version; whole = parts.whole; small = parts.small; start = parts.start; least = parts.least; words = refl } in
     subst (Extends marks total s text) a.1 (record {
-      spelled = subst (λ x. body marks m st (ts ++ bytes ∷ []) [] ≡ so_far marks s ++ line x) same (rw before (text_body marks m st ts bytes));
-      good = at_texts m l st (ts ++ bytes ∷ []) more refl;
+      spelled = subst (λ x. body marks v m st (ts ++ bytes ∷ []) [] ≡ so_far marks s ++ line x) same (rw before (text_body marks v m st ts bytes));
+      good = at_texts v m l st (ts ++ bytes ∷ []) more refl;
       words = sym words;
       ops = sym ops;
     })
@@ -226,13 +251,13 @@ pub text_extends : (marks : List Bool) (total : ℕ) (text : List ℕ) (t : Befo
 unfolding text_step
 text_extends marks total text t s = by_cases marks total (λ s. text_step s text ≡ Ok t → Extends marks total s text t) s (record {
   start = λ h. never 1 t h;
-  version = λ h. never 1 t h;
-  memory = λ m l st parts h. text_from marks total m l st [] text (shape Memory m l st [] [] [] 0) t parts refl refl refl h;
-  texts = λ m l st ts parts h. text_from marks total m l st ts text (shape Texts m l st ts [] [] 0) t parts refl refl refl h;
-  word_end = λ m l st ts ws parts h. never 1 t h;
-  label = λ m l st ts ws parts marked h. never 1 t h;
-  operations = λ m l st ts ws ops parts all h. never 1 t h;
-  idle = λ m l st ts ws n parts low high h. never 1 t h;
+  version = λ v known h. never 1 t h;
+  memory = λ v m l st parts h. text_from marks total v m l st [] text (shape Memory v m l st [] [] [] 0) t parts refl refl refl h;
+  texts = λ v m l st ts parts h. text_from marks total v m l st ts text (shape Texts v m l st ts [] [] 0) t parts refl refl refl h;
+  word_end = λ v m l st ts ws parts h. never 1 t h;
+  label = λ v m l st ts ws parts marked h. never 1 t h;
+  operations = λ v m l st ts ws ops parts all h. never 1 t h;
+  idle = λ v m l st ts ws n parts low high h. never 1 t h;
 })
 
 -- a label
@@ -245,18 +270,18 @@ no_label : (b : Bool) (t : Before) → (if b then refused 5 else refused 1) ≡ 
 no_label true t e = cc
 no_label false t e = cc
 
-label_from : (marks : List Bool) (total m l : ℕ) (st : List (ℕ × ℤ)) (ts : List (List ℕ)) (ws : List Word) (p : ℕ) (text : List ℕ) (stood : Bool) (s t : Before) → Parts total m l st ts ws
-    → s.words ≡ ws → s.ops ≡ [] → so_far marks s ≡ body marks m st ts ws → place_text p ≡ text
-    → (if stood then refused 5 else accepted (nat_eq p (length ws) && get_or marks (length ws) false) (shape Label m l st ts ws [] 0)) ≡ taken t
+label_from : (marks : List Bool) (total v m l : ℕ) (st : List (ℕ × ℤ)) (ts : List (List ℕ)) (ws : List Word) (p : ℕ) (text : List ℕ) (stood : Bool) (s t : Before) → Parts total v m l st ts ws
+    → s.words ≡ ws → s.ops ≡ [] → so_far marks s ≡ body marks v m st ts ws → place_text p ≡ text
+    → (if stood then refused 5 else accepted (nat_eq p (length ws) && get_or marks (length ws) false) (shape Label v m l st ts ws [] 0)) ≡ taken t
     → Extends marks total s text t
-label_from marks total m l st ts ws p text stood s t parts words ops before same h =
-    let a = not_stood stood (nat_eq p (length ws) && get_or marks (length ws) false) (shape Label m l st ts ws [] 0) t h in
+label_from marks total v m l st ts ws p text stood s t parts words ops before same h =
+    let a = not_stood stood (nat_eq p (length ws) && get_or marks (length ws) false) (shape Label v m l st ts ws [] 0) t h in
     let b = both_true (nat_eq p (length ws)) (get_or marks (length ws) false) a.0 in
     let here : p ≡ length ws = eqb-true _ _ b.0 in
     subst (Extends marks total s text) a.1 (record {
-      spelled = subst (λ x. body marks m st ts ws ++ label_line (length ws) ≡ so_far marks s ++ line x) same
-          (rw before (ap (λ k. body marks m st ts ws ++ label_line k) (sym here)));
-      good = at_label m l st ts ws parts b.1 refl;
+      spelled = subst (λ x. body marks v m st ts ws ++ label_line (length ws) ≡ so_far marks s ++ line x) same
+          (rw before (ap (λ k. body marks v m st ts ws ++ label_line k) (sym here)));
+      good = at_label v m l st ts ws parts b.1 refl;
       words = sym words;
       ops = sym ops;
     })
@@ -265,13 +290,13 @@ label_by_extends : (marks : List Bool) (total p : ℕ) (text : List ℕ) (t : Be
 unfolding label_by
 label_by_extends marks total p text t s good same = by_cases marks total (λ s. label_by marks s p ≡ Ok t → Extends marks total s text t) s (record {
   start = λ h. absurd (no_label (label_stood marks beginning p) t h);
-  version = λ h. absurd (no_label (label_stood marks (shape Version 0 0 [] [] [] [] 0) p) t h);
-  memory = λ m l st parts h. label_from marks total m l st [] [] p text (label_stood marks (shape Memory m l st [] [] [] 0) p) (shape Memory m l st [] [] [] 0) t parts refl refl refl same h;
-  texts = λ m l st ts parts h. label_from marks total m l st ts [] p text (label_stood marks (shape Texts m l st ts [] [] 0) p) (shape Texts m l st ts [] [] 0) t parts refl refl refl same h;
-  word_end = λ m l st ts ws parts h. label_from marks total m l st ts ws p text (label_stood marks (shape WordEnd m l st ts ws [] 0) p) (shape WordEnd m l st ts ws [] 0) t parts refl refl refl same h;
-  label = λ m l st ts ws parts marked h. absurd (no_label (label_stood marks (shape Label m l st ts ws [] 0) p) t h);
-  operations = λ m l st ts ws ops parts all h. absurd (no_label (label_stood marks (shape Operations m l st ts ws ops 0) p) t h);
-  idle = λ m l st ts ws n parts low high h. absurd (no_label (label_stood marks (shape Idle m l st ts ws [] n) p) t h);
+  version = λ v known h. absurd (no_label (label_stood marks (shape Version v 0 0 [] [] [] [] 0) p) t h);
+  memory = λ v m l st parts h. label_from marks total v m l st [] [] p text (label_stood marks (shape Memory v m l st [] [] [] 0) p) (shape Memory v m l st [] [] [] 0) t parts refl refl refl same h;
+  texts = λ v m l st ts parts h. label_from marks total v m l st ts [] p text (label_stood marks (shape Texts v m l st ts [] [] 0) p) (shape Texts v m l st ts [] [] 0) t parts refl refl refl same h;
+  word_end = λ v m l st ts ws parts h. label_from marks total v m l st ts ws p text (label_stood marks (shape WordEnd v m l st ts ws [] 0) p) (shape WordEnd v m l st ts ws [] 0) t parts refl refl refl same h;
+  label = λ v m l st ts ws parts marked h. absurd (no_label (label_stood marks (shape Label v m l st ts ws [] 0) p) t h);
+  operations = λ v m l st ts ws ops parts all h. absurd (no_label (label_stood marks (shape Operations v m l st ts ws ops 0) p) t h);
+  idle = λ v m l st ts ws n parts low high h. absurd (no_label (label_stood marks (shape Idle v m l st ts ws [] n) p) t h);
 }) good
 
 tested : (b : Bool) (r : Result Before ℕ) (t : Before) → (if b then r else refused 1) ≡ taken t → (b ≡ true) × (r ≡ taken t)
@@ -297,20 +322,20 @@ unmarked_label marks p e = unmarked_by marks p (get_or marks p false) refl e
     unmarked_by marks p true e h = absurd cc
     unmarked_by marks p false e h = rw e refl
 
-idle_from : (marks : List Bool) (total m l : ℕ) (st : List (ℕ × ℤ)) (ts : List (List ℕ)) (ws : List Word) (n : ℕ) (text : List ℕ) (begins : Bool) (s t : Before) → Parts total m l st ts ws
-    → s.words ≡ ws → s.ops ≡ [] → (begins ≡ true → so_far marks s ≡ body marks m st ts ws ++ label_at marks (length ws))
-    → accepted (begins && nat_le 1 n && nat_le n 255 && bytes_eq (idle_text n) text) (shape Idle m l st ts ws [] n) ≡ Ok t
+idle_from : (marks : List Bool) (total v m l : ℕ) (st : List (ℕ × ℤ)) (ts : List (List ℕ)) (ws : List Word) (n : ℕ) (text : List ℕ) (begins : Bool) (s t : Before) → Parts total v m l st ts ws
+    → s.words ≡ ws → s.ops ≡ [] → (begins ≡ true → so_far marks s ≡ body marks v m st ts ws ++ label_at marks (length ws))
+    → accepted (begins && nat_le 1 n && nat_le n 255 && bytes_eq (idle_text n) text) (shape Idle v m l st ts ws [] n) ≡ Ok t
     → Extends marks total s text t
-idle_from marks total m l st ts ws n text begins s t parts words ops before h =
-    let a = accepted_ok (begins && nat_le 1 n && nat_le n 255 && bytes_eq (idle_text n) text) (shape Idle m l st ts ws [] n) t h in
+idle_from marks total v m l st ts ws n text begins s t parts words ops before h =
+    let a = accepted_ok (begins && nat_le 1 n && nat_le n 255 && bytes_eq (idle_text n) text) (shape Idle v m l st ts ws [] n) t h in
     let b1 = both_true (begins && nat_le 1 n && nat_le n 255) (bytes_eq (idle_text n) text) a.0 in
     let b2 = both_true (begins && nat_le 1 n) (nat_le n 255) b1.0 in
     let b3 = both_true begins (nat_le 1 n) b2.0 in
     let same : idle_text n ≡ text = is_same_text (idle_text n) text b1.1 in
     subst (Extends marks total s text) a.1 (record {
-      spelled = subst (λ x. body marks m st ts ws ++ (label_at marks (length ws) ++ line (idle_text n)) ≡ so_far marks s ++ line x) same
-          (rw (before b3.0) (sym (append_assoc (body marks m st ts ws) (label_at marks (length ws)) (line (idle_text n)))));
-      good = at_idle m l st ts ws n parts b3.1 b2.1 refl;
+      spelled = subst (λ x. body marks v m st ts ws ++ (label_at marks (length ws) ++ line (idle_text n)) ≡ so_far marks s ++ line x) same
+          (rw (before b3.0) (sym (append_assoc (body marks v m st ts ws) (label_at marks (length ws)) (line (idle_text n)))));
+      good = at_idle v m l st ts ws n parts b3.1 b2.1 refl;
       words = sym words;
       ops = sym ops;
     })
@@ -326,13 +351,13 @@ pub idle_extends : (marks : List Bool) (total : ℕ) (text : List ℕ) (t : Befo
 unfolding idle_step
 idle_extends marks total text t s = by_cases marks total (λ s. idle_step marks s text ≡ Ok t → Extends marks total s text t) s (record {
   start = λ h. never 1 t h;
-  version = λ h. never 1 t h;
-  memory = λ m l st parts h. idle_from marks total m l st [] [] (number_at (drop 5 text)).0 text (not (get_or marks 0 false)) (shape Memory m l st [] [] [] 0) t parts refl refl (unlabelled marks 0 (body marks m st [] [])) h;
-  texts = λ m l st ts parts h. idle_from marks total m l st ts [] (number_at (drop 5 text)).0 text (not (get_or marks 0 false)) (shape Texts m l st ts [] [] 0) t parts refl refl (unlabelled marks 0 (body marks m st ts [])) h;
-  word_end = λ m l st ts ws parts h. idle_from marks total m l st ts ws (number_at (drop 5 text)).0 text (not (get_or marks (length ws) false)) (shape WordEnd m l st ts ws [] 0) t parts refl refl (unlabelled marks (length ws) (body marks m st ts ws)) h;
-  label = λ m l st ts ws parts marked h. idle_from marks total m l st ts ws (number_at (drop 5 text)).0 text true (shape Label m l st ts ws [] 0) t parts refl refl (λ _. labelled marks (length ws) (body marks m st ts ws) marked) h;
-  operations = λ m l st ts ws ops parts all h. never 1 t h;
-  idle = λ m l st ts ws n parts low high h. never 1 t h;
+  version = λ v known h. never 1 t h;
+  memory = λ v m l st parts h. idle_from marks total v m l st [] [] (number_at (drop 5 text)).0 text (not (get_or marks 0 false)) (shape Memory v m l st [] [] [] 0) t parts refl refl (unlabelled marks 0 (body marks v m st [] [])) h;
+  texts = λ v m l st ts parts h. idle_from marks total v m l st ts [] (number_at (drop 5 text)).0 text (not (get_or marks 0 false)) (shape Texts v m l st ts [] [] 0) t parts refl refl (unlabelled marks 0 (body marks v m st ts [])) h;
+  word_end = λ v m l st ts ws parts h. idle_from marks total v m l st ts ws (number_at (drop 5 text)).0 text (not (get_or marks (length ws) false)) (shape WordEnd v m l st ts ws [] 0) t parts refl refl (unlabelled marks (length ws) (body marks v m st ts ws)) h;
+  label = λ v m l st ts ws parts marked h. idle_from marks total v m l st ts ws (number_at (drop 5 text)).0 text true (shape Label v m l st ts ws [] 0) t parts refl refl (λ _. labelled marks (length ws) (body marks v m st ts ws) marked) h;
+  operations = λ v m l st ts ws ops parts all h. never 1 t h;
+  idle = λ v m l st ts ws n parts low high h. never 1 t h;
 })
 
 -- the end of a word
@@ -357,18 +382,18 @@ idle_sound total texts n high = rw high (rw (or_true (nat_eq n 0)) refl)
 not_zero : (n : ℕ) → nat_le 1 n ≡ true → nat_eq n 0 ≡ false
 not_zero n e = let le : 1 ≤ n = leb-true _ _ e in grind (arith, nat_tests)
 
-word_end_from : (marks : List Bool) (total m l : ℕ) (st : List (ℕ × ℤ)) (ts : List (List ℕ)) (ws : List Word) (ops : List Operation) (n : ℕ) (begins : Bool) (s t : Before) → Parts total m l st ts ws
+word_end_from : (marks : List Bool) (total v m l : ℕ) (st : List (ℕ × ℤ)) (ts : List (List ℕ)) (ws : List Word) (ops : List Operation) (n : ℕ) (begins : Bool) (s t : Before) → Parts total v m l st ts ws
     → is_sound_word total (length ts) (record { ops = ops; idle = n }) ≡ true → s.words ≡ ws → s.ops ≡ ops → s.idle ≡ n
-    → (begins ≡ true → body marks m st ts ws ++ (label_at marks (length ws) ++ word_lines (record { ops = ops; idle = n })) ≡ so_far marks s ++ line (codes ";;"))
-    → accepted begins (shape WordEnd m l st ts (ws ++ record { ops = ops; idle = n } ∷ []) [] 0) ≡ Ok t
+    → (begins ≡ true → body marks v m st ts ws ++ (label_at marks (length ws) ++ word_lines (record { ops = ops; idle = n })) ≡ so_far marks s ++ line (codes ";;"))
+    → accepted begins (shape WordEnd v m l st ts (ws ++ record { ops = ops; idle = n } ∷ []) [] 0) ≡ Ok t
     → Ends marks total s t
-word_end_from marks total m l st ts ws ops n begins s t parts sound words same_ops same_idle before h =
+word_end_from marks total v m l st ts ws ops n begins s t parts sound words same_ops same_idle before h =
     let w : Word = record { ops = ops; idle = n } in
-    let a = accepted_ok begins (shape WordEnd m l st ts (ws ++ w ∷ []) [] 0) t h in
-    let more : Parts total m l st ts (ws ++ w ∷ []) = record { whole = parts.whole; small = parts.small; start = parts.start; least = parts.least; words = all_more (is_sound_word total (length ts)) ws w parts.words sound } in
+    let a = accepted_ok begins (shape WordEnd v m l st ts (ws ++ w ∷ []) [] 0) t h in
+    let more : Parts total v m l st ts (ws ++ w ∷ []) = record { version = parts.version; whole = parts.whole; small = parts.small; start = parts.start; least = parts.least; words = all_more (is_sound_word total (length ts)) ws w parts.words sound } in
     subst (Ends marks total s) a.1 (record {
-      spelled = word_body marks m st ts ws w ∙ before a.0;
-      good = at_word_end m l st ts (ws ++ w ∷ []) more refl;
+      spelled = word_body marks v m st ts ws w ∙ before a.0;
+      good = at_word_end v m l st ts (ws ++ w ∷ []) more refl;
       words = rw (words, same_ops, same_idle) refl;
       ops = refl;
     })
@@ -390,19 +415,19 @@ pub word_end_extends : (marks : List Bool) (total : ℕ) (t : Before) (s : Befor
 unfolding word_end_step
 word_end_extends marks total t s = by_cases marks total (λ s. word_end_step marks s ≡ Ok t → Ends marks total s t) s (record {
   start = λ h. never 1 t h;
-  version = λ h. never 1 t h;
-  memory = λ m l st parts h. word_end_from marks total m l st [] [] [] 0 ((not (get_or marks 0 false) || false) || false) (shape Memory m l st [] [] [] 0) t parts refl refl refl refl
-      (λ e. end_unlabelled marks 0 (body marks m st [] []) (or_false _ (or_false _ e))) h;
-  texts = λ m l st ts parts h. word_end_from marks total m l st ts [] [] 0 ((not (get_or marks 0 false) || false) || false) (shape Texts m l st ts [] [] 0) t parts refl refl refl refl
-      (λ e. end_unlabelled marks 0 (body marks m st ts []) (or_false _ (or_false _ e))) h;
-  word_end = λ m l st ts ws parts h. word_end_from marks total m l st ts ws [] 0 ((not (get_or marks (length ws) false) || false) || false) (shape WordEnd m l st ts ws [] 0) t parts refl refl refl refl
-      (λ e. end_unlabelled marks (length ws) (body marks m st ts ws) (or_false _ (or_false _ e))) h;
-  label = λ m l st ts ws parts marked h. word_end_from marks total m l st ts ws [] 0 true (shape Label m l st ts ws [] 0) t parts refl refl refl refl
-      (λ _. end_labelled marks (length ws) (body marks m st ts ws) marked) h;
-  operations = λ m l st ts ws ops parts all h. word_end_from marks total m l st ts ws ops 0 true (shape Operations m l st ts ws ops 0) t parts all refl refl refl
-      (λ _. end_regrouped (body marks m st ts ws) (label_at marks (length ws)) (flat_map operation_line ops)) h;
-  idle = λ m l st ts ws n parts low high h. word_end_from marks total m l st ts ws [] n true (shape Idle m l st ts ws [] n) t parts (idle_sound total (length ts) n high) refl refl refl
-      (λ _. rw (not_zero n low) (end_regrouped (body marks m st ts ws) (label_at marks (length ws)) (line (idle_text n)))) h;
+  version = λ v known h. never 1 t h;
+  memory = λ v m l st parts h. word_end_from marks total v m l st [] [] [] 0 ((not (get_or marks 0 false) || false) || false) (shape Memory v m l st [] [] [] 0) t parts refl refl refl refl
+      (λ e. end_unlabelled marks 0 (body marks v m st [] []) (or_false _ (or_false _ e))) h;
+  texts = λ v m l st ts parts h. word_end_from marks total v m l st ts [] [] 0 ((not (get_or marks 0 false) || false) || false) (shape Texts v m l st ts [] [] 0) t parts refl refl refl refl
+      (λ e. end_unlabelled marks 0 (body marks v m st ts []) (or_false _ (or_false _ e))) h;
+  word_end = λ v m l st ts ws parts h. word_end_from marks total v m l st ts ws [] 0 ((not (get_or marks (length ws) false) || false) || false) (shape WordEnd v m l st ts ws [] 0) t parts refl refl refl refl
+      (λ e. end_unlabelled marks (length ws) (body marks v m st ts ws) (or_false _ (or_false _ e))) h;
+  label = λ v m l st ts ws parts marked h. word_end_from marks total v m l st ts ws [] 0 true (shape Label v m l st ts ws [] 0) t parts refl refl refl refl
+      (λ _. end_labelled marks (length ws) (body marks v m st ts ws) marked) h;
+  operations = λ v m l st ts ws ops parts all h. word_end_from marks total v m l st ts ws ops 0 true (shape Operations v m l st ts ws ops 0) t parts all refl refl refl
+      (λ _. end_regrouped (body marks v m st ts ws) (label_at marks (length ws)) (flat_map operation_line ops)) h;
+  idle = λ v m l st ts ws n parts low high h. word_end_from marks total v m l st ts ws [] n true (shape Idle v m l st ts ws [] n) t parts (idle_sound total (length ts) n high) refl refl refl
+      (λ _. rw (not_zero n low) (end_regrouped (body marks v m st ts ws) (label_at marks (length ws)) (line (idle_text n)))) h;
 })
 
 -- an operation
@@ -430,20 +455,20 @@ operations_more : (B L : List ℕ) (ops : List Operation) (op : Operation) → B
 operations_more B L ops op =
     ap (λ x. B ++ (L ++ x)) (flat_map-append operation_line ops (op ∷ [])) ∙ regroup_operations B L (flat_map operation_line ops) (operation_line op)
 
-operation_from : (marks : List Bool) (total m l : ℕ) (st : List (ℕ × ℤ)) (ts : List (List ℕ)) (ws : List Word) (ops : List Operation) (k : ℕ) (op : Operation) (text : List ℕ) (begins : Bool) (s t : Before)
-    → Parts total m l st ts ws → list_all (is_sound_operation total (length ts)) ops ≡ true → s.words ≡ ws → s.ops ≡ ops → IsRead total k op text
-    → (begins ≡ true → body marks m st ts ws ++ (label_at marks (length ws) ++ flat_map operation_line ops) ≡ so_far marks s)
-    → (if nat_lt (length ts) (texts_named op) then refused 3 else (if is_beyond total op then refused 4 else accepted (nat_eq k (cluster_of op) && begins) (shape Operations m l st ts ws (ops ++ op ∷ []) 0))) ≡ taken t
+operation_from : (marks : List Bool) (total v m l : ℕ) (st : List (ℕ × ℤ)) (ts : List (List ℕ)) (ws : List Word) (ops : List Operation) (k : ℕ) (op : Operation) (text : List ℕ) (begins : Bool) (s t : Before)
+    → Parts total v m l st ts ws → list_all (is_sound_operation total (length ts)) ops ≡ true → s.words ≡ ws → s.ops ≡ ops → IsRead total k op text
+    → (begins ≡ true → body marks v m st ts ws ++ (label_at marks (length ws) ++ flat_map operation_line ops) ≡ so_far marks s)
+    → (if nat_lt (length ts) (texts_named op) then refused 3 else (if is_beyond total op then refused 4 else accepted (nat_eq k (cluster_of op) && begins) (shape Operations v m l st ts ws (ops ++ op ∷ []) 0))) ≡ taken t
     → Adds marks total s op text t
-operation_from marks total m l st ts ws ops k op text begins s t parts all words same_ops read before h =
-    let a = three_tests (nat_lt (length ts) (texts_named op)) (is_beyond total op) (nat_eq k (cluster_of op) && begins) (shape Operations m l st ts ws (ops ++ op ∷ []) 0) t h in
+operation_from marks total v m l st ts ws ops k op text begins s t parts all words same_ops read before h =
+    let a = three_tests (nat_lt (length ts) (texts_named op)) (is_beyond total op) (nat_eq k (cluster_of op) && begins) (shape Operations v m l st ts ws (ops ++ op ∷ []) 0) t h in
     let b = both_true (nat_eq k (cluster_of op)) begins a.2 in
     let sound : is_sound_operation total (length ts) op ≡ true = sound_operation total (length ts) op read.formed a.0 a.1 in
     let same : operation_text op ≡ text = read.spelled b.0 a.1 in
     subst (Adds marks total s op text) a.3 (record {
-      spelled = subst (λ x. body marks m st ts ws ++ (label_at marks (length ws) ++ flat_map operation_line (ops ++ op ∷ [])) ≡ so_far marks s ++ line x) same
-          (operations_more (body marks m st ts ws) (label_at marks (length ws)) ops op ∙ ap (λ x. x ++ operation_line op) (before b.1));
-      good = at_operations m l st ts ws (ops ++ op ∷ []) parts (all_more (is_sound_operation total (length ts)) ops op all sound) refl;
+      spelled = subst (λ x. body marks v m st ts ws ++ (label_at marks (length ws) ++ flat_map operation_line (ops ++ op ∷ [])) ≡ so_far marks s ++ line x) same
+          (operations_more (body marks v m st ts ws) (label_at marks (length ws)) ops op ∙ ap (λ x. x ++ operation_line op) (before b.1));
+      good = at_operations v m l st ts ws (ops ++ op ∷ []) parts (all_more (is_sound_operation total (length ts)) ops op all sound) refl;
       words = sym words;
       ops = rw same_ops refl;
     })
@@ -468,17 +493,17 @@ operation_by_stage_adds : (marks : List Bool) (total k : ℕ) (op : Operation) (
 unfolding operation_by_stage
 operation_by_stage_adds marks total k op text t s good read = by_cases marks total (λ s. operation_by_stage marks total s k op ≡ Ok t → Adds marks total s op text t) s (record {
   start = λ h. absurd (no_operation (nat_lt 0 (texts_named op)) (is_beyond total op) (nat_eq k (cluster_of op)) (record beginning { stage = Operations; ops = op ∷ [] }) t h);
-  version = λ h. absurd (no_operation (nat_lt 0 (texts_named op)) (is_beyond total op) (nat_eq k (cluster_of op)) (shape Operations 0 0 [] [] [] (op ∷ []) 0) t h);
-  memory = λ m l st parts h. operation_from marks total m l st [] [] [] k op text (not (get_or marks 0 false) || false) (shape Memory m l st [] [] [] 0) t parts refl refl refl read
-      (begins_unlabelled marks 0 (body marks m st [] [])) h;
-  texts = λ m l st ts parts h. operation_from marks total m l st ts [] [] k op text (not (get_or marks 0 false) || false) (shape Texts m l st ts [] [] 0) t parts refl refl refl read
-      (begins_unlabelled marks 0 (body marks m st ts [])) h;
-  word_end = λ m l st ts ws parts h. operation_from marks total m l st ts ws [] k op text (not (get_or marks (length ws) false) || false) (shape WordEnd m l st ts ws [] 0) t parts refl refl refl read
-      (begins_unlabelled marks (length ws) (body marks m st ts ws)) h;
-  label = λ m l st ts ws parts marked h. operation_from marks total m l st ts ws [] k op text true (shape Label m l st ts ws [] 0) t parts refl refl refl read
-      (λ _. begins_labelled marks (length ws) (body marks m st ts ws) marked) h;
-  operations = λ m l st ts ws ops parts all h. operation_from marks total m l st ts ws ops k op text true (shape Operations m l st ts ws ops 0) t parts all refl refl read (λ _. refl) h;
-  idle = λ m l st ts ws n parts low high h. absurd (no_operation (nat_lt (length ts) (texts_named op)) (is_beyond total op) (nat_eq k (cluster_of op)) (shape Operations m l st ts ws (op ∷ []) n) t h);
+  version = λ v known h. absurd (no_operation (nat_lt 0 (texts_named op)) (is_beyond total op) (nat_eq k (cluster_of op)) (shape Operations v 0 0 [] [] [] (op ∷ []) 0) t h);
+  memory = λ v m l st parts h. operation_from marks total v m l st [] [] [] k op text (not (get_or marks 0 false) || false) (shape Memory v m l st [] [] [] 0) t parts refl refl refl read
+      (begins_unlabelled marks 0 (body marks v m st [] [])) h;
+  texts = λ v m l st ts parts h. operation_from marks total v m l st ts [] [] k op text (not (get_or marks 0 false) || false) (shape Texts v m l st ts [] [] 0) t parts refl refl refl read
+      (begins_unlabelled marks 0 (body marks v m st ts [])) h;
+  word_end = λ v m l st ts ws parts h. operation_from marks total v m l st ts ws [] k op text (not (get_or marks (length ws) false) || false) (shape WordEnd v m l st ts ws [] 0) t parts refl refl refl read
+      (begins_unlabelled marks (length ws) (body marks v m st ts ws)) h;
+  label = λ v m l st ts ws parts marked h. operation_from marks total v m l st ts ws [] k op text true (shape Label v m l st ts ws [] 0) t parts refl refl refl read
+      (λ _. begins_labelled marks (length ws) (body marks v m st ts ws) marked) h;
+  operations = λ v m l st ts ws ops parts all h. operation_from marks total v m l st ts ws ops k op text true (shape Operations v m l st ts ws ops 0) t parts all refl refl read (λ _. refl) h;
+  idle = λ v m l st ts ws n parts low high h. absurd (no_operation (nat_lt (length ts) (texts_named op)) (is_beyond total op) (nat_eq k (cluster_of op)) (shape Operations v m l st ts ws (op ∷ []) n) t h);
 }) good
 
 abbrev found : Operation → Result Operation ℕ

@@ -78,21 +78,21 @@ op_stage_opens : (marks : List Bool) (b : Stage) (ws : List Word) (ops : List Op
 op_stage_opens marks b ws [] e = rw e refl
 op_stage_opens marks b ws (o ∷ os) e = refl
 
-operations_lead : (marks : List Bool) (total m l : ℕ) (st : List (ℕ × ℤ)) (ts : List (List ℕ)) (ws : List Word) (b : Stage) (done rest : List Operation) → opens marks b ws ≡ true
+operations_lead : (marks : List Bool) (total v m l : ℕ) (st : List (ℕ × ℤ)) (ts : List (List ℕ)) (ws : List Word) (b : Stage) (done rest : List Operation) → opens marks b ws ≡ true
     → list_all (is_sound_operation total (length ts)) rest ≡ true → list_all fits_operation rest ≡ true
-    → Leads marks total (shape (op_stage b done) m l st ts ws done 0) (map operation_text rest) (shape (op_stage b (done ++ rest)) m l st ts ws (done ++ rest) 0)
-operations_lead marks total m l st ts ws b done [] o e f =
-    subst (λ x. Leads marks total (shape (op_stage b done) m l st ts ws done 0) [] (shape (op_stage b x) m l st ts ws x 0)) (sym (append-nil done)) (stay marks total (shape (op_stage b done) m l st ts ws done 0))
-operations_lead marks total m l st ts ws b done (op ∷ ops) o e f =
+    → Leads marks total (shape (op_stage b done) v m l st ts ws done 0) (map operation_text rest) (shape (op_stage b (done ++ rest)) v m l st ts ws (done ++ rest) 0)
+operations_lead marks total v m l st ts ws b done [] o e f =
+    subst (λ x. Leads marks total (shape (op_stage b done) v m l st ts ws done 0) [] (shape (op_stage b x) v m l st ts ws x 0)) (sym (append-nil done)) (stay marks total (shape (op_stage b done) v m l st ts ws done 0))
+operations_lead marks total v m l st ts ws b done (op ∷ ops) o e f =
     let x = both_true (is_sound_operation total (length ts) op) (list_all (is_sound_operation total (length ts)) ops) e in
     let y = both_true (fits_operation op) (list_all fits_operation ops) f in
-    let here = shape (op_stage b done) m l st ts ws done 0 in
-    let next = shape (op_stage b (done ++ op ∷ [])) m l st ts ws (done ++ op ∷ []) 0 in
+    let here = shape (op_stage b done) v m l st ts ws done 0 in
+    let next = shape (op_stage b (done ++ op ∷ [])) v m l st ts ws (done ++ op ∷ []) 0 in
     let one : step marks total here (operation_text op) ≡ Ok next =
-    operation_taken marks total here op x.0 y.0 (op_stage_opens marks b ws done o) ∙ ap (λ (stage : Stage). Ok (shape stage m l st ts ws (done ++ op ∷ []) 0)) (sym (op_stage_more b done op)) in
-    let rest = operations_lead marks total m l st ts ws b (done ++ op ∷ []) ops o x.1 y.1 in
-    let along = subst (λ w. Leads marks total next (map operation_text ops) (shape (op_stage b w) m l st ts ws w 0)) (append_assoc done (op ∷ []) ops) rest in
-    first_then marks total here next (shape (op_stage b (done ++ op ∷ ops)) m l st ts ws (done ++ op ∷ ops) 0) (operation_text op) (map operation_text ops) one along
+    operation_taken marks total here op x.0 y.0 (op_stage_opens marks b ws done o) ∙ ap (λ (stage : Stage). Ok (shape stage v m l st ts ws (done ++ op ∷ []) 0)) (sym (op_stage_more b done op)) in
+    let rest = operations_lead marks total v m l st ts ws b (done ++ op ∷ []) ops o x.1 y.1 in
+    let along = subst (λ w. Leads marks total next (map operation_text ops) (shape (op_stage b w) v m l st ts ws w 0)) (append_assoc done (op ∷ []) ops) rest in
+    first_then marks total here next (shape (op_stage b (done ++ op ∷ ops)) v m l st ts ws (done ++ op ∷ ops) 0) (operation_text op) (map operation_text ops) one along
 
 -- a word
 
@@ -130,39 +130,39 @@ pub no_operations : (ops : List Operation) → nat_eq (length ops) 0 ≡ true �
 no_operations [] e = refl
 no_operations (o ∷ os) e = absurd (let h : suc (length os) ≡ 0 = eqb-true _ _ e in omega (arith, h))
 
-word_leads_by : (marks : List Bool) (total m l : ℕ) (st : List (ℕ × ℤ)) (ts : List (List ℕ)) (ws : List Word) (b : Stage) (ops : List Operation) (n : ℕ) (z : Bool) → nat_eq n 0 ≡ z → opens marks b ws ≡ true
+word_leads_by : (marks : List Bool) (total v m l : ℕ) (st : List (ℕ × ℤ)) (ts : List (List ℕ)) (ws : List Word) (b : Stage) (ops : List Operation) (n : ℕ) (z : Bool) → nat_eq n 0 ≡ z → opens marks b ws ≡ true
     → is_sound_word total (length ts) (word_of ops n) ≡ true → list_all fits_operation ops ≡ true
-    → Leads marks total (shape b m l st ts ws [] 0) (own_lines ops n) (shape WordEnd m l st ts (ws ++ word_of ops n ∷ []) [] 0)
-word_leads_by marks total m l st ts ws b ops n true z o e f =
+    → Leads marks total (shape b v m l st ts ws [] 0) (own_lines ops n) (shape WordEnd v m l st ts (ws ++ word_of ops n ∷ []) [] 0)
+word_leads_by marks total v m l st ts ws b ops n true z o e f =
     let x = both_true (nat_le n 255 && (nat_eq n 0 || nat_eq (length ops) 0)) (list_all (is_sound_operation total (length ts)) ops) e in
     let n-is : n ≡ 0 = eqb-true _ _ z in
-    let middle = shape (op_stage b ops) m l st ts ws ops 0 in
-    let run : Leads marks total (shape b m l st ts ws [] 0) (map operation_text ops) middle = operations_lead marks total m l st ts ws b [] ops o x.1 f in
-    let ending : step marks total middle (codes ";;") ≡ Ok (shape WordEnd m l st ts (ws ++ word_of ops 0 ∷ []) [] 0) =
+    let middle = shape (op_stage b ops) v m l st ts ws ops 0 in
+    let run : Leads marks total (shape b v m l st ts ws [] 0) (map operation_text ops) middle = operations_lead marks total v m l st ts ws b [] ops o x.1 f in
+    let ending : step marks total middle (codes ";;") ≡ Ok (shape WordEnd v m l st ts (ws ++ word_of ops 0 ∷ []) [] 0) =
     end_taken marks total middle (or_left (begins_word marks middle || is_operations_stage middle.stage) (is_idle_stage middle.stage) (op_stage_opens marks b ws ops o)) in
-    let whole = follow marks total (shape b m l st ts ws [] 0) middle (shape WordEnd m l st ts (ws ++ word_of ops 0 ∷ []) [] 0) (map operation_text ops) (codes ";;" ∷ []) run
-    (one_step marks total middle (codes ";;") (shape WordEnd m l st ts (ws ++ word_of ops 0 ∷ []) [] 0) ending) in
-    subst (λ k. Leads marks total (shape b m l st ts ws [] 0) (own_lines ops k) (shape WordEnd m l st ts (ws ++ word_of ops k ∷ []) [] 0)) (sym n-is) whole
-word_leads_by marks total m l st ts ws b ops n false z o e f =
+    let whole = follow marks total (shape b v m l st ts ws [] 0) middle (shape WordEnd v m l st ts (ws ++ word_of ops 0 ∷ []) [] 0) (map operation_text ops) (codes ";;" ∷ []) run
+    (one_step marks total middle (codes ";;") (shape WordEnd v m l st ts (ws ++ word_of ops 0 ∷ []) [] 0) ending) in
+    subst (λ k. Leads marks total (shape b v m l st ts ws [] 0) (own_lines ops k) (shape WordEnd v m l st ts (ws ++ word_of ops k ∷ []) [] 0)) (sym n-is) whole
+word_leads_by marks total v m l st ts ws b ops n false z o e f =
     let x = both_true (nat_le n 255 && (nat_eq n 0 || nat_eq (length ops) 0)) (list_all (is_sound_operation total (length ts)) ops) e in
     let y = both_true (nat_le n 255) (nat_eq n 0 || nat_eq (length ops) 0) x.0 in
     let none : nat_eq (length ops) 0 ≡ true = rw z at y.1 in
     let ops-is : ops ≡ [] = no_operations ops none in
     let low : nat_le 1 n ≡ true = grind (arith, nat_tests) in
-    let idle : step marks total (shape b m l st ts ws [] 0) (idle_text n) ≡ Ok (shape Idle m l st ts ws [] n) = idle_taken marks total (shape b m l st ts ws [] 0) n o low y.0 in
-    let ending : step marks total (shape Idle m l st ts ws [] n) (codes ";;") ≡ Ok (shape WordEnd m l st ts (ws ++ word_of [] n ∷ []) [] 0) = end_taken marks total (shape Idle m l st ts ws [] n) refl in
-    let whole : Leads marks total (shape b m l st ts ws [] 0) (idle_text n ∷ codes ";;" ∷ []) (shape WordEnd m l st ts (ws ++ word_of [] n ∷ []) [] 0) =
-    first_then marks total (shape b m l st ts ws [] 0) (shape Idle m l st ts ws [] n) (shape WordEnd m l st ts (ws ++ word_of [] n ∷ []) [] 0) (idle_text n) (codes ";;" ∷ []) idle
-    (one_step marks total (shape Idle m l st ts ws [] n) (codes ";;") (shape WordEnd m l st ts (ws ++ word_of [] n ∷ []) [] 0) ending) in
+    let idle : step marks total (shape b v m l st ts ws [] 0) (idle_text n) ≡ Ok (shape Idle v m l st ts ws [] n) = idle_taken marks total (shape b v m l st ts ws [] 0) n o low y.0 in
+    let ending : step marks total (shape Idle v m l st ts ws [] n) (codes ";;") ≡ Ok (shape WordEnd v m l st ts (ws ++ word_of [] n ∷ []) [] 0) = end_taken marks total (shape Idle v m l st ts ws [] n) refl in
+    let whole : Leads marks total (shape b v m l st ts ws [] 0) (idle_text n ∷ codes ";;" ∷ []) (shape WordEnd v m l st ts (ws ++ word_of [] n ∷ []) [] 0) =
+    first_then marks total (shape b v m l st ts ws [] 0) (shape Idle v m l st ts ws [] n) (shape WordEnd v m l st ts (ws ++ word_of [] n ∷ []) [] 0) (idle_text n) (codes ";;" ∷ []) idle
+    (one_step marks total (shape Idle v m l st ts ws [] n) (codes ";;") (shape WordEnd v m l st ts (ws ++ word_of [] n ∷ []) [] 0) ending) in
     let lines_are : own_lines [] n ≡ idle_text n ∷ codes ";;" ∷ [] = rw z refl in
-    let one : Leads marks total (shape b m l st ts ws [] 0) (own_lines [] n) (shape WordEnd m l st ts (ws ++ word_of [] n ∷ []) [] 0) =
-    subst (λ ls. Leads marks total (shape b m l st ts ws [] 0) ls (shape WordEnd m l st ts (ws ++ word_of [] n ∷ []) [] 0)) (sym lines_are) whole in
-    subst (λ os. Leads marks total (shape b m l st ts ws [] 0) (own_lines os n) (shape WordEnd m l st ts (ws ++ word_of os n ∷ []) [] 0)) (sym ops-is) one
+    let one : Leads marks total (shape b v m l st ts ws [] 0) (own_lines [] n) (shape WordEnd v m l st ts (ws ++ word_of [] n ∷ []) [] 0) =
+    subst (λ ls. Leads marks total (shape b v m l st ts ws [] 0) ls (shape WordEnd v m l st ts (ws ++ word_of [] n ∷ []) [] 0)) (sym lines_are) whole in
+    subst (λ os. Leads marks total (shape b v m l st ts ws [] 0) (own_lines os n) (shape WordEnd v m l st ts (ws ++ word_of os n ∷ []) [] 0)) (sym ops-is) one
 
-pub word_leads : (marks : List Bool) (total m l : ℕ) (st : List (ℕ × ℤ)) (ts : List (List ℕ)) (ws : List Word) (b : Stage) (ops : List Operation) (n : ℕ) → opens marks b ws ≡ true
+pub word_leads : (marks : List Bool) (total v m l : ℕ) (st : List (ℕ × ℤ)) (ts : List (List ℕ)) (ws : List Word) (b : Stage) (ops : List Operation) (n : ℕ) → opens marks b ws ≡ true
     → is_sound_word total (length ts) (word_of ops n) ≡ true → list_all fits_operation ops ≡ true
-    → Leads marks total (shape b m l st ts ws [] 0) (own_lines ops n) (shape WordEnd m l st ts (ws ++ word_of ops n ∷ []) [] 0)
-word_leads marks total m l st ts ws b ops n o e f = word_leads_by marks total m l st ts ws b ops n (nat_eq n 0) refl o e f
+    → Leads marks total (shape b v m l st ts ws [] 0) (own_lines ops n) (shape WordEnd v m l st ts (ws ++ word_of ops n ∷ []) [] 0)
+word_leads marks total v m l st ts ws b ops n o e f = word_leads_by marks total v m l st ts ws b ops n (nat_eq n 0) refl o e f
 
 -- a label
 
@@ -199,11 +199,11 @@ label_dispatch marks total s xs = rw (field_of_label xs) refl
 below_itself : (n : ℕ) → nat_lt n n ≡ false
 below_itself n = grind (arith, nat_tests)
 
-pub label_taken : (marks : List Bool) (total m l : ℕ) (st : List (ℕ × ℤ)) (ts : List (List ℕ)) (ws : List Word) → length ws ≤ 4294967295 → get_or marks (length ws) false ≡ true
-    → step marks total (shape (word_stage ts ws) m l st ts ws [] 0) (place_text (length ws)) ≡ Ok (shape Label m l st ts ws [] 0)
+pub label_taken : (marks : List Bool) (total v m l : ℕ) (st : List (ℕ × ℤ)) (ts : List (List ℕ)) (ws : List Word) → length ws ≤ 4294967295 → get_or marks (length ws) false ≡ true
+    → step marks total (shape (word_stage ts ws) v m l st ts ws [] 0) (place_text (length ws)) ≡ Ok (shape Label v m l st ts ws [] 0)
 unfolding label_step label_by
-label_taken marks total m l st ts ws small marked =
+label_taken marks total v m l st ts ws small marked =
     let p = length ws in
     let read : number_at (drop 1 (place_text p)) ≡ (p, codes ":") = number_read p (codes ":") small refl in
-    label_dispatch marks total (shape (word_stage ts ws) m l st ts ws [] 0) (decimal p ++ codes ":")
+    label_dispatch marks total (shape (word_stage ts ws) v m l st ts ws [] 0) (decimal p ++ codes ":")
     ∙ rw (read, same_text (place_text p), marked, below_itself p, eq-eqb p p refl, word_stage_begun ts ws, word_stage_between ts ws) refl

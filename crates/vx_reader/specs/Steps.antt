@@ -17,7 +17,7 @@ use Rattle.vx_reader.specs.Reading.{is_number, texts_named, is_field, operation_
 
 -- nothing stood before the first line
 abbrev pub beginning : Before
-beginning = record { stage = Start; memory = 0; start = []; least = 0; texts = []; words = []; ops = []; idle = 0 }
+beginning = record { stage = Start; version = 0; memory = 0; start = []; least = 0; texts = []; words = []; ops = []; idle = 0 }
 
 abbrev pub is_start_stage : Stage → Bool
 is_start_stage Start = true
@@ -63,8 +63,17 @@ accepted fits s = if fits then Ok s else Err 1
 
 -- directives
 
+-- the first line of a text: it says one of the two versions
+abbrev pub is_version_line : List ℕ → Bool
+is_version_line text = bytes_eq text (codes ".vexwords 1") || bytes_eq text (codes ".vexwords 2")
+
+-- the version that it says
+abbrev pub version_of : List ℕ → ℕ
+version_of text = if bytes_eq text (codes ".vexwords 2") then 2 else 1
+
 unfoldable pub version_step : Before → List ℕ → Result Before ℕ
-version_step s text = if is_start_stage s.stage then accepted (bytes_eq text (codes ".vexwords 1")) (record s { stage = Version }) else Err 5
+version_step s text =
+    if is_start_stage s.stage then accepted (is_version_line text) (record s { stage = Version; version = version_of text }) else Err 5
 
 abbrev pub value_from : ℕ → List ℕ → ℕ
 value_from n [] = n

@@ -68,7 +68,7 @@ run_lines marks total n s [] = Ok s
 run_lines marks total n s (l ∷ ls) = followed n (step marks total s l) (λ t. run_lines marks total (n + 1) t ls)
 
 abbrev pub program_of : Before → WordProgram
-program_of s = record { memory = s.memory; start = s.start; texts = s.texts; words = s.words }
+program_of s = record { version = s.version; memory = s.memory; start = s.start; texts = s.texts; words = s.words }
 
 -- the last line, `.end`, may stand where no word is begun
 abbrev pub ended : ℕ → Result Before Fault → Result WordProgram Fault

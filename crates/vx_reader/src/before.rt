@@ -33,6 +33,8 @@ pub enum Stage {
 #[derive(Drop)]
 pub struct Before {
     pub stage: Stage,
+    /// The version of the text, once its line stood.
+    pub version: u32,
     /// The bytes of the memory.
     pub memory: u32,
     /// The words of the memory that do not start as 0.
@@ -55,6 +57,7 @@ impl Before {
     {
         Before {
             stage: Stage::Start,
+            version: 0,
             memory: 0,
             start: Listed::new(alloc),
             least: 0,

@@ -170,6 +170,7 @@ fn finish(before: Before, number: u32) -> Result<WordProgram, WordsFault>
         });
     }
     Ok(WordProgram {
+        version: before.version,
         memory: before.memory,
         start: before.start,
         texts: before.texts,

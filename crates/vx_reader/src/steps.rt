@@ -7,7 +7,7 @@ ghost use Rattle.vx_isa.specs.Operations.{cluster_of};
 ghost use Rattle.vx_reader.specs.declared.before.Stage.TheVariants.{Operations};
 ghost use Rattle.vx_reader.specs.Reading.{Gives};
 ghost use Rattle.vx_words.specs.Spelling.{place_text, start_text, quoted_text, idle_text};
-ghost use Rattle.vx_reader.specs.Steps.{is_start_stage, is_version_stage, is_memory_stage, is_between_words, is_label_stage, is_operations_stage, is_idle_stage, is_text_stage, is_marked, begins_word, accepted, version_step, value_from, is_size, Counts, memory_step, entry_at, is_entry, start_step, text_step, label_stood, label_by, label_step, idle_step, word_end_step, is_beyond, operation_by_stage, operation_step, is_operation_line, line_cluster, step};
+ghost use Rattle.vx_reader.specs.Steps.{is_start_stage, is_version_stage, is_memory_stage, is_between_words, is_label_stage, is_operations_stage, is_idle_stage, is_text_stage, is_marked, begins_word, accepted, is_version_line, version_of, version_step, value_from, is_size, Counts, memory_step, entry_at, is_entry, start_step, text_step, label_stood, label_by, label_step, idle_step, word_end_step, is_beyond, operation_by_stage, operation_step, is_operation_line, line_cluster, step};
 
 use crate::before::{Before, Stage};
 use crate::fault::LineFault;
@@ -87,6 +87,19 @@ pub fn is_same(text: &[u8], other: &[u8]) -> bool
     text == other
 }
 
+fn is_version(text: &[u8]) -> bool
+    ensures { result ≡ is_version_line text.now }
+{
+    is_same(text, b".vexwords 1") || is_same(text, b".vexwords 2")
+}
+
+// The version that the line of a version says.
+fn version_said(text: &[u8]) -> u32
+    ensures { result ≡ version_of text.now }
+{
+    if is_same(text, b".vexwords 2") { 2 } else { 1 }
+}
+
 #[tactic(auto, unfolding(crate::specs::Steps::version_step))]
 fn take_version(before: &mut Before, text: &[u8]) -> Result<(), LineFault>
     ensures { Gives (λ _. before.new) result (version_step before.old text.now) }
@@ -94,10 +107,11 @@ fn take_version(before: &mut Before, text: &[u8]) -> Result<(), LineFault>
     if !is_at_start(before.stage) {
         return Err(LineFault::Code(5));
     }
-    if !is_same(text, b".vexwords 1") {
+    if !is_version(text) {
         return Err(LineFault::Code(1));
     }
     before.stage = Stage::Version;
+    before.version = version_said(text);
     Ok(())
 }
 

@@ -22,6 +22,7 @@ alone op = record { ops = op ∷ []; idle = 0 }
 -- seven times five, printed
 abbrev thirty_five : WordProgram
 thirty_five = record {
+  version = 1;
   memory = 0;
   start = [];
   texts = [];
@@ -32,19 +33,36 @@ thirty_five_text : spelling thirty_five ≡ codes ".vexwords 1\n.memory 0\nc0 mo
 unfolding digits
 thirty_five_text = refl
 
+-- the same in the second version
+second_version_text : spelling (record thirty_five { version = 2 }) ≡ codes ".vexwords 2\n.memory 0\nc0 mov $r0.4 = 7\n;;\nc0 mpylu $r0.3 = $r0.4, 5\n;;\nc0 outd $r0.3\n;;\nc0 halt 0\n;;\n.end\n"
+unfolding digits
+second_version_text = refl
+
+-- two branches of a word, each with the label of its place
+branches_text : spelling (record {
+  version = 2;
+  memory = 0;
+  start = [];
+  texts = [];
+  words =
+      record { ops = BranchOn 0 true 1 ∷ BranchOn 1 false 2 ∷ []; idle = 0 } ∷ alone (Halt (Number (pos 1))) ∷ alone (Halt (Number (pos 2))) ∷ [];
+}) ≡ codes ".vexwords 2\n.memory 0\nc0 br $b0.0, L1\nc0 brf $b0.1, L2\n;;\nL1:\nc0 halt 1\n;;\nL2:\nc0 halt 2\n;;\n.end\n"
+unfolding digits
+branches_text = refl
+
 -- no word at all
-empty_text : spelling (record { memory = 0; start = []; texts = []; words = [] }) ≡ codes ".vexwords 1\n.memory 0\n.end\n"
+empty_text : spelling (record { version = 1; memory = 0; start = []; texts = []; words = [] }) ≡ codes ".vexwords 1\n.memory 0\n.end\n"
 unfolding digits
 empty_text = refl
 
 -- a label stands at the one place that is named, words without operations beside it
-labelled_text : spelling (record { memory = 0; start = []; texts = []; words = record { ops = []; idle = 0 } ∷ record { ops = []; idle = 255 } ∷ alone (Goto 1) ∷ [] })
+labelled_text : spelling (record { version = 1; memory = 0; start = []; texts = []; words = record { ops = []; idle = 0 } ∷ record { ops = []; idle = 255 } ∷ alone (Goto 1) ∷ [] })
     ≡ codes ".vexwords 1\n.memory 0\n;;\nL1:\nxnop 255\n;;\nc0 goto L1\n;;\n.end\n"
 unfolding digits
 labelled_text = refl
 
 -- the memory's first words, and a text
-memory_text : spelling (record { memory = 16; start = (4, pos 7) ∷ (12, negsuc 0) ∷ []; texts = (72 ∷ 105 ∷ []) ∷ []; words = [] })
+memory_text : spelling (record { version = 1; memory = 16; start = (4, pos 7) ∷ (12, negsuc 0) ∷ []; texts = (72 ∷ 105 ∷ []) ∷ []; words = [] })
     ≡ codes ".vexwords 1\n.memory 16\n.word 4 = 7\n.word 12 = -1\n.text \"Hi\"\n.end\n"
 unfolding digits
 memory_text = refl

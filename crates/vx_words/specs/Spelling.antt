@@ -1,5 +1,5 @@
--- The text of a program of words, version 1. Every line ends with one line feed; fields stand apart by one blank;
--- numbers are decimal without leading zeros. There is one spelling for each program.
+-- The text of a program of words, in the program's version, which the first line says. Every line ends with one line feed;
+-- fields stand apart by one blank; numbers are decimal without leading zeros. There is one spelling for each program.
 use Rattle.std.specs.Prelude.{◌≡◌, ℕ, ◌+◌, ◌/◌, ◌%◌, ℤ, Bool, true, false, ◌&&◌, ◌==◌, nat_lt, nat_le, if◌then◌else◌, not, List, [], ◌∷◌, ◌++◌, Option, Some, None, codes, decimal}
 use Rattle.std.specs.List.{flat_map, list_any}
 use Rattle.std.specs.Fmt.{signed_decimal}
@@ -190,12 +190,16 @@ abbrev pub words_from : List Word → ℕ → List Word → List ℕ
 words_from all p [] = []
 words_from all p (w ∷ ws) = (if is_named all p then label_line p else []) ++ word_lines w ++ words_from all (p + 1) ws
 
-abbrev pub header : ℕ → List ℕ
-header memory = line (codes ".vexwords 1") ++ line (codes ".memory " ++ decimal memory)
+-- the first line is the version of the text
+abbrev pub version_text : ℕ → List ℕ
+version_text version = codes ".vexwords " ++ decimal version
+
+abbrev pub header : (version memory : ℕ) → List ℕ
+header version memory = line (version_text version) ++ line (codes ".memory " ++ decimal memory)
 
 abbrev pub spelling : WordProgram → List ℕ
 spelling w =
-    header w.memory ++ flat_map start_line w.start ++ flat_map text_line w.texts ++ words_from w.words 0 w.words ++ line (codes ".end")
+    header w.version w.memory ++ flat_map start_line w.start ++ flat_map text_line w.texts ++ words_from w.words 0 w.words ++ line (codes ".end")
 
 -- the bytes are the text of the program
 abbrev pub Spells : List ℕ → WordProgram → Type 0

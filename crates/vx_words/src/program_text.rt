@@ -6,7 +6,7 @@ ghost use Rattle.vx_isa.specs.Sound.{is_sound};
 ghost use Rattle.vx_words.specs.Spelling.{Spells, target_of, names, is_named, hexadecimal_digit, byte_text, quoted_text, text_line, start_text, start_line, idle_text, word_lines, operation_line, place_text, words_from, header, spelling};
 
 use crate::operation_text::{
-    push_bytes, push_label, push_named_number, push_number, push_operation_line, push_signed,
+    push_bytes, push_label, push_named_number, push_operation_line, push_signed,
 };
 use std::alloc::Global;
 use vx_base::listed::Bytes;
@@ -167,15 +167,22 @@ fn push_words(alloc: Global, out: &mut Vec<u8>, words: &[Word]) -> Result<(), No
     Ok(())
 }
 
+/// Puts the first line, which says the version of the text, and the line with the bytes of the memory at the end.
+fn push_header(out: &mut Vec<u8>, version: u32, memory: u32) -> Result<(), NoMemory>
+    ensures { OnOk result (out.new.items ≡ out.old.items ++ header version memory) }
+{
+    push_named_number(out, b".vexwords ", version)?;
+    push_named_number(out, b"\n.memory ", memory)?;
+    push_bytes(out, b"\n")
+}
+
 /// The text of the program, which must be sound. `Err` comes only where memory runs out.
 pub fn write(alloc: Global, program: &WordProgram) -> Result<Vec<u8>, NoMemory>
     requires { is_sound program.now ≡ true }
     ensures { IfOk result (λ text. Spells text.items program.now) }
 {
     let mut out = Vec::new(alloc);
-    push_bytes(&mut out, b".vexwords 1\n.memory ")?;
-    push_number(&mut out, program.memory as usize)?;
-    push_bytes(&mut out, b"\n")?;
+    push_header(&mut out, program.version, program.memory)?;
     push_start_lines(&mut out, program.start.as_slice())?;
     push_text_lines(&mut out, program.texts.as_slice())?;
     push_words(alloc, &mut out, program.words.as_slice())?;
