@@ -9,4 +9,4 @@ word_of ops = record { ops = ops; idle = 0 }
 
 -- 8 bytes of memory, of which the second word starts as 7, and a line feed
 abbrev pub program_of : (words : List (List Operation)) → WordProgram
-program_of words = record { memory = 8; start = (4, pos 7) ∷ []; texts = (10 ∷ []) ∷ []; words = map word_of words }
+program_of words = record { version = 1; memory = 8; start = (4, pos 7) ∷ []; texts = (10 ∷ []) ∷ []; words = map word_of words }

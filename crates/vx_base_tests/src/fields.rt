@@ -5,8 +5,8 @@ ghost use Rattle.vx_base_tests.specs.Fields.{fields_of};
 
 use vx_machine::Machine;
 
-/// The counts of a machine, and then its latencies, in the order of their fields.
-pub fn fields_of(machine: &Machine) -> [u32; 16]
+/// The counts of a machine, its latencies, and then its branches, in the order of their fields.
+pub fn fields_of(machine: &Machine) -> [u32; 17]
     ensures { result ≡ fields_of machine.now }
 {
     [
@@ -26,5 +26,6 @@ pub fn fields_of(machine: &Machine) -> [u32; 16]
         machine.latency_load(),
         machine.latency_divide(),
         machine.latency_copy(),
+        machine.branches(),
     ]
 }

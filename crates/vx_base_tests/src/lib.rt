@@ -7,6 +7,8 @@ mod arithmetic;
 #[cfg(test)]
 mod boxes;
 #[cfg(test)]
+mod branches;
+#[cfg(test)]
 mod descriptions;
 mod fields;
 #[cfg(test)]

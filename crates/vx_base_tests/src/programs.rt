@@ -27,7 +27,7 @@ fn words(alloc: Global, words: &[&[Operation]]) -> Result<Listed<Word>, NoMemory
     Ok(list)
 }
 
-/// A program of these words, with 8 bytes of memory, of which the second word starts as 7, and a line feed as its text.
+/// A program of version 1 of these words, with 8 bytes of memory, of which the second word starts as 7, and a line feed as its text.
 pub fn program(alloc: Global, all: &[&[Operation]]) -> Result<WordProgram, NoMemory>
     ensures { IfOk result (λ program. program ≡ program_of (map (λ ops. ops.now) all.now)) }
 {
@@ -37,6 +37,7 @@ pub fn program(alloc: Global, all: &[&[Operation]]) -> Result<WordProgram, NoMem
     texts.push(line)?;
     let words = words(alloc, all)?;
     Ok(WordProgram {
+        version: 1,
         memory: 8,
         start,
         texts,

@@ -10,6 +10,7 @@ use vx_flow::trace::Homes;
 use vx_isa::operation::UnitKind;
 use vx_machine::items::{ClusteredItem, Item};
 use vx_machine::{Machine, has_room, home_of};
+use vx_test_machines::{Kind, machine};
 
 const SUM: Item = Item::Plain(Op::Compute {
     code: Code::Add,
@@ -67,13 +68,26 @@ fn has_room_for_two(homes: &Homes) -> bool {
         && !has_room(&machine, homes, &[one, one, split, split])
 }
 
+/// A word has room for as many splits as the machine has branches.
+fn has_room_for_splits(alloc: Global, homes: &Homes) -> Result<bool, NoMemory> {
+    let split = on(0, SPLIT);
+    let two = machine(alloc, Kind::TwoBranches)?;
+    Ok(
+        has_room(&two, homes, &[split, split])
+            && !has_room(&two, homes, &[split, split, split])
+            && !has_room(&Machine::vex(1), homes, &[split, split]),
+    )
+}
+
 fn have_homes(homes: &Homes) -> bool {
     home_of(homes, 0) == Some(0) && home_of(homes, 1) == None
 }
 
 #[test]
 fn items_have_room_or_none(rt: HostRuntime) -> Result<(), Fail> {
-    let homes = homes(rt.alloc())?;
+    let alloc = rt.alloc();
+    let homes = homes(alloc)?;
+    assert!(rt; has_room_for_splits(alloc, &homes)?);
     assert!(rt; has_room_for_sums(&homes) && has_room_for_two(&homes));
     assert!(rt; have_homes(&homes));
     Ok(())

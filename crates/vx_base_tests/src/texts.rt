@@ -185,3 +185,34 @@ fn faulty_texts(rt: HostRuntime) {
         )
     );
 }
+
+/// Two branches in a word, in the second version.
+const TWO_BRANCHES: &[u8] =
+    b".vexwords 2\n.memory 0\nc0 br $b0.0, L1\nc0 brf $b0.1, L2\n;;\nL1:\nc0 halt 1\n;;\nL2:\nc0 halt 2\n;;\n.end\n";
+
+/// The version of a text that is read, else 0.
+fn version_read(alloc: Global, text: &[u8]) -> u32 {
+    match read(alloc, text) {
+        Ok(program) => program.version,
+        Err(_) => 0,
+    }
+}
+
+// A text is read, and written again, in its own version.
+#[test]
+fn two_versions(rt: HostRuntime) -> Result<(), Fail> {
+    let alloc = rt.alloc();
+    assert!(rt; is_again(alloc, TWO_BRANCHES)?);
+    assert_eq!(rt; version_read(alloc, TWO_BRANCHES), 2);
+    assert_eq!(rt; version_read(alloc, FIVE_IN_TEXT), 1);
+    Ok(())
+}
+
+// Another number is no version, and the second one is repeated as the first one is and hides no later fault.
+#[test]
+fn faulty_versions(rt: HostRuntime) {
+    let alloc = rt.alloc();
+    assert!(rt; has_fault(alloc, b".vexwords 3\n.memory 0\n.end\n", 1, 1));
+    assert!(rt; has_fault(alloc, b".vexwords 2\n.memory 0\n.vexwords 2\n.end\n", 5, 3));
+    assert!(rt; has_fault(alloc, b".vexwords 2\n.memory 134217732\n.end\n", 6, 2));
+}

@@ -4,3 +4,4 @@ pub mod Entries
 pub mod Reaches
 pub mod Passing
 pub mod Tables
+pub mod BranchRows

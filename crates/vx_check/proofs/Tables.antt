@@ -9,6 +9,7 @@ use Rattle.vx_isa.specs.declared.program.WordProgram.{WordProgram}
 use Rattle.vx_isa.specs.Numbers.{Numbers}
 use Rattle.vx_isa.specs.Operations.{is_zero}
 use Rattle.vx_isa.specs.Fits.{fits, operands}
+use Rattle.vx_isa.specs.Machine.{issuing_machine}
 use Rattle.vx_base.specs.Paths.{After, Reached}
 use Rattle.vx_isa.specs.Paths.{Among, Leads, ReadsAt, WordAt, WritesAt, cycles_at}
 use Rattle.vx_check.specs.declared.verdict.Verdict.TheVariants.{Yes, Pending}
@@ -108,11 +109,11 @@ module _ (m : Numbers) (w : WordProgram) (at : List (List InFlight)) (anywhere :
 
   pub checks_yes : AllFit m w → ((q : ℕ) → IsHot w at anywhere q → ⊥) → Checks m w Yes
   checks_yes fit cold = record {
-    fit = λ p word stands. fitting p word stands (fits m word.ops) refl;
+    fit = λ p word stands. fitting p word stands (fits (issuing_machine w m) word.ops) refl;
     never_early = λ p q r l c reached writes path reads. late p q r l c reached writes path reads (hot at anywhere q r) refl;
   }
     where
-      fitting : (p : ℕ) (word : Word) → WordAt w p word → (b : Bool) → fits m word.ops ≡ b → fits m word.ops ≡ true
+      fitting : (p : ℕ) (word : Word) → WordAt w p word → (b : Bool) → fits (issuing_machine w m) word.ops ≡ b → fits (issuing_machine w m) word.ops ≡ true
       fitting p word stands true e = e
       fitting p word stands false e = absurd (fit p (word, stands, e))
 

@@ -7,14 +7,15 @@ use Rattle.vx_isa.specs.declared.program.Word.{Word}
 use Rattle.vx_isa.specs.declared.program.WordProgram.{WordProgram}
 use Rattle.vx_isa.specs.Numbers.{Numbers}
 use Rattle.vx_isa.specs.Fits.{fits}
+use Rattle.vx_isa.specs.Machine.{issuing_machine}
 use Rattle.vx_isa.specs.Paths.{Leads, PathStrict, ReadsAt, WordAt, WritesAt, cycles_at}
 use Rattle.vx_isa.specs.Strict.{Strict}
 use Rattle.vx_check.specs.declared.verdict.Verdict.{Verdict}
 use Rattle.vx_check.specs.declared.verdict.Verdict.TheVariants.{Yes, Unfit, Pending}
 
--- the word at a place does not fit the machine
+-- the word at a place does not fit the machine, which has one branch a word where the program is of version 1
 abbrev pub IsUnfit : Numbers → WordProgram → ℕ → Type 0
-IsUnfit m w p = (word : Word) × WordAt w p word × (fits m word.ops ≡ false)
+IsUnfit m w p = (word : Word) × WordAt w p word × (fits (issuing_machine w m) word.ops ≡ false)
 
 -- on a path from the start the word at a place reads a register, other than a register 0, that an earlier word of the path wrote
 -- with a latency of more cycles than have passed since
@@ -34,7 +35,7 @@ pub record IsLowest (Holds : ℕ → Type 0) (p : ℕ) : Type 0 where
   pub here : Holds p
   pub first : (q : ℕ) → q < p → Holds q → ⊥
 
--- every word fits
+-- every word fits the machine, by the version of the program
 abbrev pub AllFit : Numbers → WordProgram → Type 0
 AllFit m w = (p : ℕ) → IsUnfit m w p → ⊥
 

@@ -1,4 +1,4 @@
-// Where a word may lead: a branch either way, and a return to every place.
+// Where a word may lead: each branch either way, and a return to every place.
 
 ghost use Rattle.std.specs.Prelude.{◌≡◌, ◌<◌, ◌∷◌, [], ◌++◌, length, IfOk};
 ghost use Rattle.vx_isa.specs.Paths.{WordAt};

@@ -19,12 +19,13 @@ use vx_isa::operation::{Operation, Register};
 use vx_isa::program::WordProgram;
 use vx_machine::{Machine, fits};
 
-/// The first word that does not fit the machine.
+/// The first word that does not fit the machine, with as many branches a word as the program's version allows.
 fn first_unfit(program: &WordProgram, machine: &Machine) -> Option<u32>
     ensures { MatchOption result (AllFit machine.now program.now) (IsLowest (IsUnfit machine.now program.now)) }
 {
+    let issuing = machine.for_version(program.version);
     'places: for place in 0..program.words.len() {
-        if !fits(machine, word_at(program, place)) {
+        if !fits(&issuing, word_at(program, place)) {
             return Some(place as u32);
         }
     }
@@ -112,8 +113,8 @@ fn verdict_of(alloc: Global, program: &WordProgram, machine: &Machine) -> Result
     }
 }
 
-/// Whether every word of the program fits the machine and on no static path a word reads a register while a write to it may be in
-/// flight, or the lowest place where not: first of a word that does not fit, then of one that reads early. The time is at most that
+/// Whether every word of the program fits the machine, with at most one branch a word where the program is of version 1, and on no
+/// static path a word reads a register while a write to it may be in flight, or the lowest place where not: first of a word that does not fit, then of one that reads early. The time is at most that
 /// of the words and of the writes that may be in flight at them, as often as the greatest latency of the machine has cycles.
 pub fn check(alloc: Global, program: &WordProgram, machine: &Machine) -> Result<Verdict, NoMemory>
     ensures checks { IfOk result (λ verdict. Checks machine.now program.now verdict) }

@@ -3,7 +3,7 @@ use Rattle.std.proofs.Common.{◌≡◌, ◌≢◌, ℕ, zero, suc, ◌+◌, ◌
 use Rattle.std.proofs.Math.Nat.{mod-add-div'}
 use Rattle.std.proofs.Math.Path.{fun_ext}
 use Rattle.std.proofs.lemmas.Bool.Decides.{nat_tests}
-use Rattle.vx_isa.specs.Sound.{is_start, is_not_zero, is_sound, is_sound_word}
+use Rattle.vx_isa.specs.Sound.{is_start, is_not_zero, is_version, is_sound, is_sound_word}
 use Rattle.vx_isa.specs.Machine.{stored, memory_at_start, is_word_of}
 use Rattle.std.specs.List.{list_all}
 use Rattle.vx_isa.specs.declared.program.WordProgram.{WordProgram}
@@ -80,7 +80,7 @@ sound_start w e =
     let e1 = and_left _ (list_all (is_sound_word (length w.words) (length w.texts)) w.words) e in
     let e2 = and_left _ (is_start w.memory 0 w.start) e1 in
     let e3 = and_left _ (nat_le w.memory 134217728) e2 in
-    record { aligned = eqb-true (w.memory % 4) 0 e3; start = and_right _ _ e1 }
+    record { aligned = eqb-true (w.memory % 4) 0 (and_right (is_version w.version) _ e3); start = and_right _ _ e1 }
 
 pub zero_at : (n i : ℕ) → slice_index_or (replicate n (pos 0)) i (pos 0) ≡ pos 0
 zero_at zero zero = refl

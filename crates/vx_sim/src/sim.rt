@@ -42,10 +42,11 @@ pub struct Sim {
 impl Sim {
     ghost use Rattle.std.specs.Prelude.{false};
     ghost use Rattle.vx_io.specs.Outside.{Rose};
-    ghost use Rattle.vx_isa.specs.Machine.{start};
+    ghost use Rattle.vx_isa.specs.Machine.{issuing_machine, start};
     ghost use Rattle.vx_sim.specs.Ran.{stands, Ran, is_fault};
 
-    /// A simulator at the start of the program. It takes all memory that the run needs.
+    /// A simulator at the start of the program, on the machine that the program's version allows: words of version 1 have at most
+    /// one branch each. It takes all memory that the run needs.
     pub fn start(
         alloc: Global,
         program: WordProgram,
@@ -55,13 +56,14 @@ impl Sim {
         requires { is_sound program ≡ true }
         ensures stands { IfOk result (λ sim. stands sim ≡ start program input.items) }
         ensures program { IfOk result (λ sim. sim.program ≡ program) }
-        ensures machine { IfOk result (λ sim. sim.machine ≡ machine) }
+        ensures machine { IfOk result (λ sim. sim.machine ≡ issuing_machine program machine) }
         ensures fresh { IfOk result (λ sim. (sim.issued ≡ 0) × (sim.ended ≡ false)) }
     {
-        let space = space_for(alloc, &program, &machine)?;
+        let issuing = machine.for_version(program.version);
+        let space = space_for(alloc, &program, &issuing)?;
         Ok(Sim {
             program,
-            machine,
+            machine: issuing,
             shapes: space.shapes,
             standing: Standing {
                 place: 0,

@@ -9,7 +9,7 @@ pub returns-clause-program : goal.returns-clause-program
 returns-clause-program c = refl
 
 pub returns-clause-machine : goal.returns-clause-machine
-returns-clause-machine c = refl
+returns-clause-machine c = c.for_version-issuing.ensures
 
 pub returns-clause-fresh : goal.returns-clause-fresh
 returns-clause-fresh c = (refl, refl)
