@@ -8,7 +8,7 @@ use Rattle.vx_base.specs.declared.outcome.Trap.{Trap}
 use Rattle.vx_base.specs.declared.outcome.Reason.{Reason}
 use Rattle.vx_base.proofs.Same.{begins_on}
 use Rattle.vx_isa.specs.Numbers.{Numbers}
-use Rattle.vx_isa.specs.Machine.{words_run}
+use Rattle.vx_isa.specs.Machine.{issuing_machine, words_run}
 use Rattle.vx_ast.specs.Tree.{Program}
 use Rattle.vx_ast.specs.Meaning.{source}
 use Rattle.vx_probe.specs.Times.{Times, list_of}
@@ -69,10 +69,10 @@ module _ (p : Program) (x : Loaded) (times : Times) (faithful : Faithful p x.mac
   -- the least number of words with which the run within a budget comes to its outcome
   pub issues_of : (budget : ℕ) (o : Outcome) → outcome_within x times budget ≡ o → Issues (outcome_within x times) budget o (length (events_within x times budget))
   issues_of budget o is = record {
-    comes = issues_comes x.machine (list_of times) x.program budget (begun x times) (safe budget) ∙ is;
-    within = issues_within x.machine (list_of times) x.program budget (begun x times) (safe budget);
-    least = issues_least x.machine (list_of times) x.program budget (begun x times) (safe budget);
-    all = λ g. issues_all x.machine (list_of times) x.program budget (begun x times) (safe budget) (subst IsGoing (sym is) g);
+    comes = issues_comes (issuing_machine x.program x.machine) (list_of times) x.program budget (begun x times) (safe budget) ∙ is;
+    within = issues_within (issuing_machine x.program x.machine) (list_of times) x.program budget (begun x times) (safe budget);
+    least = issues_least (issuing_machine x.program x.machine) (list_of times) x.program budget (begun x times) (safe budget);
+    all = λ g. issues_all (issuing_machine x.program x.machine) (list_of times) x.program budget (begun x times) (safe budget) (subst IsGoing (sym is) g);
   }
 
 -- the run and its lines
@@ -94,7 +94,7 @@ module _ (asked : Execution) (x : Loaded) (times : Times) (watches : List Watch)
   shown : (o : Outcome) → the_outcome ≡ o → Shows the_outcome (issued_line the_count) (reports_of watches (events_within x times asked.budget)) s → Shows o (issued_line the_count) (reports_of watches (events_within x times the_count)) s
   shown o is h =
       subst (λ y. Shows y (issued_line the_count) (reports_of watches (events_within x times the_count)) s) is
-      (subst (λ es. Shows the_outcome (issued_line the_count) (reports_of watches es) s) (sym (issues_seen x.machine (list_of times) x.program asked.budget (begun x times) (no_failure asked.budget))) h)
+      (subst (λ es. Shows the_outcome (issued_line the_count) (reports_of watches es) s) (sym (issues_seen (issuing_machine x.program x.machine) (list_of times) x.program asked.budget (begun x times) (no_failure asked.budget))) h)
 
   runs : (status : Status) (o : Outcome) → the_outcome ≡ o → IsRunOf x times asked.budget true watches s status → Runs asked the_boxes e s o
   runs status o is a = record {

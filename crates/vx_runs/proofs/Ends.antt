@@ -4,7 +4,7 @@ use Rattle.std.specs.Prelude.{◌≤◌, ◌<◌, ◌-◌, ◌^◌, min, suc}
 use Rattle.std.specs.List.{flat_map}
 use Rattle.vx_base.specs.Outcome.{Outcome, Begins, output_of}
 use Rattle.vx_io.specs.Outside.{PutsFront, Rose, with_bytes}
-use Rattle.vx_isa.specs.Machine.{State, start, words_from}
+use Rattle.vx_isa.specs.Machine.{State, start, issuing_machine, words_from}
 use Rattle.vx_probe.specs.Times.{Times, list_of}
 use Rattle.vx_probe.specs.Watch.{Watch, shown_all}
 use Rattle.vx_probe.specs.declared.event.Event.{Event}
@@ -28,21 +28,21 @@ use Rattle.vx_io.proofs.OutsideLaws.{rose_throughout}
 
 -- the simulator's run is that of the definition
 
-module _ (before : Sim) (x : Loaded) (times : Times) (stands_at : stands before ≡ start x.program x.input) (program : before.program ≡ x.program) (machine : before.machine ≡ x.machine) where
+module _ (before : Sim) (x : Loaded) (times : Times) (stands_at : stands before ≡ start x.program x.input) (program : before.program ≡ x.program) (machine : before.machine ≡ issuing_machine x.program x.machine) where
   same_begin : sim_begun before times ≡ begun x times
   same_begin = ap (λ (s : State). record s { asked = times.place }) stands_at
 
   same_outcome : (n : ℕ) → outcome_at before times n ≡ outcome_within x times n
   same_outcome n =
       ap (λ m. words_from m (list_of times) before.program n (sim_begun before times)) machine
-      ∙ ap (λ w. words_from x.machine (list_of times) w n (sim_begun before times)) program
-      ∙ ap (λ s. words_from x.machine (list_of times) x.program n s) same_begin
+      ∙ ap (λ w. words_from (issuing_machine x.program x.machine) (list_of times) w n (sim_begun before times)) program
+      ∙ ap (λ s. words_from (issuing_machine x.program x.machine) (list_of times) x.program n s) same_begin
 
   same_events : (n : ℕ) → events_at before times n ≡ events_within x times n
   same_events n =
       ap (λ m. events_from m (list_of times) before.program n (sim_begun before times)) machine
-      ∙ ap (λ w. events_from x.machine (list_of times) w n (sim_begun before times)) program
-      ∙ ap (λ s. events_from x.machine (list_of times) x.program n s) same_begin
+      ∙ ap (λ w. events_from (issuing_machine x.program x.machine) (list_of times) w n (sim_begun before times)) program
+      ∙ ap (λ s. events_from (issuing_machine x.program x.machine) (list_of times) x.program n s) same_begin
 
   module _ (words : ℕ) (after : Sim) (times' : Times) (watches watches' : List Watch) (told told' : Option (List ℕ)) (ended : Ended) (r : Ran words before after times times' watches watches' told told' ended) where
     ran_whole : is_fault ended ≡ false → RanWhole x times words watches watches' told told' ended
@@ -70,7 +70,7 @@ module _ (before : Sim) (x : Loaded) (times : Times) (stands_at : stands before 
 
     pub issued_of : before.issued ≡ 0 → words < 2 ^ 64 → is_fault ended ≡ false → after.issued ≡ length (events_within x times words)
     issued_of fresh few no_fault =
-        let most : length (events_within x times words) ≤ words = few_events x.machine (list_of times) x.program words (begun x times) in
+        let most : length (events_within x times words) ≤ words = few_events (issuing_machine x.program x.machine) (list_of times) x.program words (begun x times) in
         let bound : r.bound ≡ words = (r.whole no_fault).bound_is in
         let seen : length (events_at before times r.bound) ≡ length (events_within x times words) = ap (λ n. length (events_at before times n)) bound ∙ ap length (same_events words) in
         let none : 0 + length (events_within x times words) ≡ length (events_within x times words) = omega arith in

@@ -12,7 +12,7 @@ use Rattle.vx_isa.specs.declared.program.Word.{Word}
 use Rattle.vx_isa.specs.declared.program.WordProgram.{WordProgram}
 use Rattle.vx_isa.specs.Numbers.{Numbers}
 use Rattle.vx_isa.specs.Operations.{destination_of, is_call, latency_of}
-use Rattle.vx_isa.specs.Machine.{State, Write, Lead, To, Halts, TrapsBy, number_of, is_asked, asked_by, write_to, time_of, writes_of, after_cycles, cycles_of, takes_input, memory_after, print_of, lead_of, stuck_by, effect, leads_to, unless_stuck, issue, step, start, words_from, words_run}
+use Rattle.vx_isa.specs.Machine.{State, Write, Lead, To, Halts, TrapsBy, number_of, is_asked, asked_by, write_to, time_of, writes_of, after_cycles, cycles_of, takes_input, memory_after, print_of, lead_of, stuck_by, effect, leads_to, unless_stuck, issue, step, start, issuing_machine, words_from, words_run}
 use Rattle.vx_probe.specs.Times.{Times, list_of}
 use Rattle.vx_runs.specs.Simulated.{Loaded, begun, outcome_within}
 
@@ -141,5 +141,5 @@ turned_some t = some_turned t.first t.others t.place
 pub outcome_turned : (x : Loaded) (t : Times) (n : ℕ) → outcome_within x t n ≡ words_run x.machine (turned_of t) x.program x.input n
 unfolding turned_of
 outcome_turned x t n =
-    runs_alike x.machine x.program (list_of t) (turned t.first t.others t.place) t.place (time_turned t.first t.others t.place) n (begun x t) (start x.program x.input)
+    runs_alike (issuing_machine x.program x.machine) x.program (list_of t) (turned t.first t.others t.place) t.place (time_turned t.first t.others t.place) n (begun x t) (start x.program x.input)
     (start x.program x.input, 0, ap (λ k. record (start x.program x.input) { asked = k }) (omega arith), refl)

@@ -9,7 +9,7 @@ use Rattle.vx_io.specs.declared.role.Role.{Role}
 use Rattle.vx_io.specs.declared.role.Role.TheVariants.{Source as TheSource, Words as TheWords, Profile as TheProfile, Machine as TheMachine, Input as TheInput}
 use Rattle.vx_isa.specs.declared.program.WordProgram.{WordProgram}
 use Rattle.vx_isa.specs.Numbers.{Numbers}
-use Rattle.vx_isa.specs.Machine.{State, start, words_from}
+use Rattle.vx_isa.specs.Machine.{State, start, issuing_machine, words_from}
 use Rattle.vx_machine.specs.declared.description.MachineFault.TheVariants.{Bad, NoMemory as NoRoom}
 use Rattle.vx_probe.specs.Times.{Times, list_of}
 use Rattle.vx_probe.specs.Watch.{Watch, shown_all}
@@ -115,7 +115,7 @@ Stops named found e (Stuck reason place) = ⊥
 Stops named found e (NotStrict breach place) = ⊥
 Stops named found e NoMemory = Unit {0}
 
--- the run
+-- the run; the words are issued by the machine with as many branches a word as their version allows
 
 module _ (x : Loaded) (times : Times) where
   -- the next landing time is that at the place of the timing
@@ -123,10 +123,10 @@ module _ (x : Loaded) (times : Times) where
   begun = record (start x.program x.input) { asked = times.place }
 
   abbrev pub outcome_within : ℕ → Outcome
-  outcome_within n = words_from x.machine (list_of times) x.program n begun
+  outcome_within n = words_from (issuing_machine x.program x.machine) (list_of times) x.program n begun
 
   abbrev pub events_within : ℕ → List Event
-  events_within n = events_from x.machine (list_of times) x.program n begun
+  events_within n = events_from (issuing_machine x.program x.machine) (list_of times) x.program n begun
 
 -- the status of an outcome
 abbrev pub IsStatusOf : Outcome → Status → Type 0

@@ -33,6 +33,10 @@ of_a_machine : status_line (Machine 3 2) ≡ codes "machine M3 issue\n"
 unfolding digits names
 of_a_machine = refl
 
+of_a_machine_of_three_branches : status_line (Machine 3 17) ≡ codes "machine M3 branches\n"
+unfolding digits names
+of_a_machine_of_three_branches = refl
+
 of_a_machine_without_a_field : status_line (Machine 1 0) ≡ codes "machine M1\n"
 unfolding digits
 of_a_machine_without_a_field = refl
