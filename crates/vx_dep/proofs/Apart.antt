@@ -14,7 +14,7 @@ use Rattle.vx_dep.specs.Delays.{Applies, IsDelay}
 use Rattle.vx_dep.specs.Earlier.{NoneBetween}
 use Rattle.vx_dep.specs.Traits.{has}
 use Rattle.vx_dep.specs.Tables.{standings_of, lives_of}
-use Rattle.vx_dep.specs.Rows.{is_barred, are_tied, stays_behind_split, stays_behind_join, stays_below, at_least, row_of, delay_of}
+use Rattle.vx_dep.specs.Rows.{is_barred, are_tied, stays_behind_split, stays_behind_join, keeps_split, stays_below, at_least, row_of, delay_of}
 use Rattle.vx_dep.specs.Sights.{reaches, has_join, is_live}
 use Rattle.vx_dep.specs.Keys.{named, key_of, is_read, share_value, access_both, are_apart, apart_delay_of, can_pass}
 use Rattle.vx_dep.proofs.Telling.{less_or, lt_is, is_lt}
@@ -99,10 +99,11 @@ apart_rows mode s u last joined live apart =
     let w : Ways = record { last = last; touch = false; joined = joined; live = live } in
     let both : Bool = a.is_observable && b.is_observable in
     let behind : Bool = joined && stays_behind_join mode b in
-    let kept : Bool = b.leaves && (a.is_observable || is_barred mode) in
+    let kept : Bool = b.leaves && (keeps_split a b || is_barred mode) in
     ap (λ x. if x then at_least a.latency (row_of mode a b w) else row_of mode a b w) (apart.tied last)
     ∙ ap (λ x. if x then Some 1 else (if stays_below mode a b w then Some 0 else None)) (behind_is both a.leaves (stays_behind_split mode b w) behind apart.leaves)
     ∙ ap (λ x. if both || behind then Some 1 else (if x then Some 0 else None)) (below_is (has b.written (values_read a.reads)) a.is_load kept apart.read)
+    ∙ ap (λ x. if both || behind then Some 1 else (if b.leaves && (((x && not b.alone) || a.is_observable) || is_barred mode) then Some 0 else None)) apart.leaves
 
 -- a lower operation that passes what is apart from it
 

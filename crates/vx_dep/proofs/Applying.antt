@@ -1,6 +1,6 @@
 -- The tests of the rows, where they are told what is so of two places, give the delay of the pair.
-use Rattle.std.proofs.Common.{◌≡◌, ◌<◌, ◌≤◌, ◌⊎◌, inl, inr, ℕ, refl, sym, ◌∙◌, ap, arith, subst, max, nat_le, Bool, true, false, ◌&&◌, ◌||◌, if◌then◌else◌, Option, Some, None}
-use Rattle.std.proofs.lemmas.Bool.{or_cases, or_left, or_right, false≢true}
+use Rattle.std.proofs.Common.{◌≡◌, ◌<◌, ◌≤◌, ◌⊎◌, inl, inr, ℕ, refl, sym, ◌∙◌, ap, arith, subst, max, nat_le, Bool, true, false, not, ◌&&◌, ◌||◌, ◌==◌, if◌then◌else◌, Option, Some, None}
+use Rattle.std.proofs.lemmas.Bool.{or_cases, or_left, or_right, false≢true, true≢false}
 use Rattle.std.proofs.lemmas.Bool.Decides.{leb_tells}
 use Rattle.vx_flow.specs.declared.graph.Op.TheVariants.{Compute, Select, Place, Load, Store, More, Input, Text, Decimal, Across, Base, PlaceIn}
 use Rattle.vx_flow.specs.declared.trace.TraceOp.{TraceOp}
@@ -14,8 +14,8 @@ use Rattle.vx_dep.specs.declared.mode.Mode.TheVariants.{Free, Barred}
 use Rattle.vx_dep.specs.declared.rows.Ways.{Ways}
 use Rattle.vx_dep.specs.Delays.{Stands, reads_of, writes_of, is_load, is_store, is_observable, leaves, latency_of, live_off, IsLastWriter, JoinBetween, Row, reads_written, writes_written, writes_read, access_behind_store, store_behind_load, both_observable, both_splits, seen_behind_split, live_behind_split, split_behind_observable, seen_behind_join, barred_above_split, barred_below_split, barred_below_join, Applies, IsGreatest, IsDelay}
 use Rattle.vx_dep.specs.declared.traits.Traits.{Traits}
-use Rattle.vx_dep.specs.Traits.{written, read, has, traits_of}
-use Rattle.vx_dep.specs.Rows.{is_barred, are_tied, stays_behind_split, stays_behind_join, stays_behind, stays_below, at_least, delay_of, MayTouch, AreWays}
+use Rattle.vx_dep.specs.Traits.{written, read, has, is_alone, traits_of}
+use Rattle.vx_dep.specs.Rows.{is_barred, are_tied, stays_behind_split, stays_behind_join, stays_behind, keeps_split, stays_below, at_least, delay_of, MayTouch, AreWays}
 use Rattle.vx_dep.proofs.Written.{reads_are, writes_are, has_value, value_has}
 
 both : (x y : Bool) → (x && y) ≡ true → (x ≡ true) × (y ≡ true)
@@ -25,6 +25,16 @@ both false y e = absurd (false≢true e)
 
 and_true : (x y : Bool) → x ≡ true → y ≡ true → (x && y) ≡ true
 and_true x y e f = ap (λ b. b && y) e ∙ f
+
+no_others : (v one : Bool) → v ≡ true → not (v && one) ≡ true → one ≡ false
+no_others true true e f = absurd (false≢true f)
+no_others true false e f = refl
+no_others false one e f = absurd (false≢true e)
+
+not_alone : (v one : Bool) → one ≡ false → not (v && one) ≡ true
+not_alone true true e = absurd (true≢false e)
+not_alone true false e = refl
+not_alone false one e = refl
 
 is_barred_mode : (mode : Mode) → is_barred mode ≡ true → mode ≡ Barred
 is_barred_mode Free e = absurd (false≢true e)
@@ -78,29 +88,37 @@ module _ (m : Numbers) (mode : Mode) (t : Trace) (i j : ℕ) (a b : TraceOp) (w 
       reads_written v.value v.writes v.among (ways.last h.0 v.value v.writes)
   tied_row (inr e) = let v = has_value a (writes_of b) (sym (among_written a b) ∙ e) in writes_written v.value v.writes v.among
 
-  behind_split : leaves a ≡ true → (leaves b ≡ true) ⊎ (is_store b ≡ true) ⊎ (is_observable b ≡ true) ⊎ (w.live ≡ true) ⊎ (is_barred mode ≡ true) → TheRow 1
-  behind_split l (inl e) = both_splits l e
+  -- between two splits, by the branches of the machine
+
+  apart : leaves a ≡ true → is_alone m b ≡ true → TheRow 1
+  apart l e = let h = both _ _ e in subst TheRow (ap (λ (one : Bool). if one then 1 else 0) h.1) (both_splits l h.0)
+
+  beside : leaves a ≡ true → leaves b ≡ true → not (is_alone m b) ≡ true → TheRow 0
+  beside l k e = subst TheRow (ap (λ (one : Bool). if one then 1 else 0) (no_others (leaves b) (m.branches == 1) k e)) (both_splits l k)
+
+  behind_split : leaves a ≡ true → (is_alone m b ≡ true) ⊎ (is_store b ≡ true) ⊎ (is_observable b ≡ true) ⊎ (w.live ≡ true) ⊎ (is_barred mode ≡ true) → TheRow 1
+  behind_split l (inl e) = apart l e
   behind_split l (inr (inl e)) = seen_behind_split l (inl e)
   behind_split l (inr (inr (inl e))) = seen_behind_split l (inr e)
   behind_split l (inr (inr (inr (inl e)))) = let v = ways.live e l in live_behind_split v.0 l v.1 v.2
   behind_split l (inr (inr (inr (inr e)))) = barred_below_split (is_barred_mode mode e) l
 
-  split_cases : stays_behind_split mode lower_traits w ≡ true → (leaves b ≡ true) ⊎ (is_store b ≡ true) ⊎ (is_observable b ≡ true) ⊎ (w.live ≡ true) ⊎ (is_barred mode ≡ true)
+  split_cases : stays_behind_split mode lower_traits w ≡ true → (is_alone m b ≡ true) ⊎ (is_store b ≡ true) ⊎ (is_observable b ≡ true) ⊎ (w.live ≡ true) ⊎ (is_barred mode ≡ true)
   split_cases e = four (or_cases _ _ e)
     where
-      two : (leaves b ≡ true) ⊎ (is_store b ≡ true) → (leaves b ≡ true) ⊎ (is_store b ≡ true) ⊎ (is_observable b ≡ true) ⊎ (w.live ≡ true) ⊎ (is_barred mode ≡ true)
+      two : (is_alone m b ≡ true) ⊎ (is_store b ≡ true) → (is_alone m b ≡ true) ⊎ (is_store b ≡ true) ⊎ (is_observable b ≡ true) ⊎ (w.live ≡ true) ⊎ (is_barred mode ≡ true)
       two (inl f) = inl f
       two (inr f) = inr (inl f)
 
-      three : ((leaves b || is_store b) ≡ true) ⊎ (is_observable b ≡ true) → (leaves b ≡ true) ⊎ (is_store b ≡ true) ⊎ (is_observable b ≡ true) ⊎ (w.live ≡ true) ⊎ (is_barred mode ≡ true)
+      three : ((is_alone m b || is_store b) ≡ true) ⊎ (is_observable b ≡ true) → (is_alone m b ≡ true) ⊎ (is_store b ≡ true) ⊎ (is_observable b ≡ true) ⊎ (w.live ≡ true) ⊎ (is_barred mode ≡ true)
       three (inl f) = two (or_cases _ _ f)
       three (inr f) = inr (inr (inl f))
 
-      less : (((leaves b || is_store b) || is_observable b) ≡ true) ⊎ (w.live ≡ true) → (leaves b ≡ true) ⊎ (is_store b ≡ true) ⊎ (is_observable b ≡ true) ⊎ (w.live ≡ true) ⊎ (is_barred mode ≡ true)
+      less : (((is_alone m b || is_store b) || is_observable b) ≡ true) ⊎ (w.live ≡ true) → (is_alone m b ≡ true) ⊎ (is_store b ≡ true) ⊎ (is_observable b ≡ true) ⊎ (w.live ≡ true) ⊎ (is_barred mode ≡ true)
       less (inl f) = three (or_cases _ _ f)
       less (inr f) = inr (inr (inr (inl f)))
 
-      four : ((((leaves b || is_store b) || is_observable b) || w.live) ≡ true) ⊎ (is_barred mode ≡ true) → (leaves b ≡ true) ⊎ (is_store b ≡ true) ⊎ (is_observable b ≡ true) ⊎ (w.live ≡ true) ⊎ (is_barred mode ≡ true)
+      four : ((((is_alone m b || is_store b) || is_observable b) || w.live) ≡ true) ⊎ (is_barred mode ≡ true) → (is_alone m b ≡ true) ⊎ (is_store b ≡ true) ⊎ (is_observable b ≡ true) ⊎ (w.live ≡ true) ⊎ (is_barred mode ≡ true)
       four (inl f) = less (or_cases _ _ f)
       four (inr f) = inr (inr (inr (inr f)))
 
@@ -136,15 +154,19 @@ module _ (m : Numbers) (mode : Mode) (t : Trace) (i j : ℕ) (a b : TraceOp) (w 
   below_row : stays_below mode upper_traits lower_traits w ≡ true → TheRow 0
   below_row e = by (or_cases _ _ e)
     where
-      split : leaves b ≡ true → (is_observable a ≡ true) ⊎ (is_barred mode ≡ true) → TheRow 0
-      split l (inl f) = split_behind_observable f l
+      keeps : leaves b ≡ true → (leaves a && not (is_alone m b) ≡ true) ⊎ (is_observable a ≡ true) → TheRow 0
+      keeps l (inl f) = let h = both _ _ f in beside h.0 l h.1
+      keeps l (inr f) = split_behind_observable f l
+
+      split : leaves b ≡ true → (keeps_split upper_traits lower_traits ≡ true) ⊎ (is_barred mode ≡ true) → TheRow 0
+      split l (inl f) = keeps l (or_cases _ _ f)
       split l (inr f) = barred_above_split (is_barred_mode mode f) l
 
       first : (has (written b) (values_read (read a)) ≡ true) ⊎ (w.touch && is_load a ≡ true) → TheRow 0
       first (inl f) = let v = has_value b (reads_of a) (sym (among_read b a) ∙ f) in writes_read v.value v.among v.writes
       first (inr f) = let h = both _ _ f in below_load h.1 (ways.touch h.0)
 
-      by : (has (written b) (values_read (read a)) || (w.touch && is_load a) ≡ true) ⊎ (leaves b && (is_observable a || is_barred mode) ≡ true) → TheRow 0
+      by : (has (written b) (values_read (read a)) || (w.touch && is_load a) ≡ true) ⊎ (leaves b && (keeps_split upper_traits lower_traits || is_barred mode) ≡ true) → TheRow 0
       by (inl f) = first (or_cases _ _ f)
       by (inr f) = let h = both _ _ f in split h.0 (or_cases _ _ h.1)
 
@@ -202,6 +224,10 @@ module _ (m : Numbers) (mode : Mode) (t : Trace) (i j : ℕ) (a b : TraceOp) (w 
   access (inl e) = or_left _ _ e
   access (inr e) = or_right _ _ e
 
+  between : leaves a ≡ true → leaves b ≡ true → (one : Bool) → (m.branches == 1) ≡ one → TheTold (if one then 1 else 0)
+  between x y true e = by_behind (from_split x (or_left _ _ (or_left _ _ (or_left _ _ (or_left _ _ (and_true _ _ y e))))))
+  between x y false e = by_below (or_right _ _ (and_true _ _ y (or_left _ _ (or_left _ _ (and_true _ _ x (not_alone (leaves b) (m.branches == 1) e))))))
+
   told : {d : ℕ} → Row m mode t i j a b d → TheTold d
   told (reads_written v wa rb last) = by_tie (or_left _ _ (and_true _ _ (is_last v wa last) (among_read a b ∙ value_has a (reads_of b) v wa rb)))
   told (writes_written v wa wb) = by_tie (or_right _ _ (among_written a b ∙ value_has a (writes_of b) v wa wb))
@@ -213,10 +239,10 @@ module _ (m : Numbers) (mode : Mode) (t : Trace) (i j : ℕ) (a b : TraceOp) (w 
       let k : MayTouch t i j upper_traits lower_traits = record { upper = or_left _ _ l; lower = or_right _ _ s; stores = or_right _ _ s; meet = meet } in
       by_below (or_left _ _ (or_right _ _ (and_true _ _ (may_touch k) l)))
   told (both_observable x y) = by_behind (or_left _ _ (or_left _ _ (or_right _ _ (and_true _ _ x y))))
-  told (both_splits x y) = by_behind (from_split x (or_left _ _ (or_left _ _ (or_left _ _ (or_left _ _ y)))))
+  told (both_splits x y) = between x y (m.branches == 1) refl
   told (seen_behind_split x y) = by_behind (from_split x (seen_split y))
   told (live_behind_split v x on wb) = by_behind (from_split x (or_left _ _ (or_right _ _ (lives_on x v on wb))))
-  told (split_behind_observable x y) = by_below (or_right _ _ (and_true _ _ y (or_left _ _ x)))
+  told (split_behind_observable x y) = by_below (or_right _ _ (and_true _ _ y (or_left _ _ (or_right _ _ x))))
   told (seen_behind_join k y) = by_behind (from_join k (seen_join y))
   told (barred_above_split e y) = by_below (or_right _ _ (and_true _ _ y (or_right _ _ (barred e))))
   told (barred_below_split e x) = by_behind (from_split x (or_right _ _ (barred e)))

@@ -12,3 +12,4 @@ pub mod Kept
 pub mod Moved
 pub mod Looking
 mod CopyRows
+mod DelayRows

@@ -63,10 +63,11 @@ behind_joined s false p false k j e f = refl
 behind_joined s true p v k j e f = absurd (true≢false e)
 behind_joined s false p true k j e f = absurd (true≢false f)
 
-below_kept : (r l v o k : Bool) → o ≡ false → ((r || (false && l)) || (v && (o || k))) ≡ (r || (v && k))
-below_kept true l v false k e = refl
-below_kept false l v false k e = refl
-below_kept r l v true k e = absurd (true≢false e)
+below_kept : (r l v w s o k : Bool) → w ≡ false → o ≡ false → ((r || (false && l)) || (v && (((w && s) || o) || k))) ≡ (r || (v && k))
+below_kept true l v false s false k e f = refl
+below_kept false l v false s false k e f = refl
+below_kept r l v true s o k e f = absurd (true≢false e)
+below_kept r l v false s true k e f = absurd (true≢false f)
 
 -- what the values give, and what is at least due
 by_kept : (l : ℕ) (tied behind read kept : Bool)
@@ -94,7 +95,7 @@ quiet_rows mode a b last joined live above =
     ap (λ x. if tied then at_least a.latency (if x then Some 1 else (if stays_below mode a b w then Some 0 else None)) else (if x then Some 1 else (if stays_below mode a b w then Some 0 else None)))
     (behind_joined a.is_store a.is_observable b.is_observable a.leaves (stays_behind_split mode b w) behind above.observable above.leaves)
     ∙ ap (λ x. if tied then at_least a.latency (if behind then Some 1 else (if x then Some 0 else None)) else (if behind then Some 1 else (if x then Some 0 else None)))
-    (below_kept read a.is_load b.leaves a.is_observable (is_barred mode) above.observable)
+    (below_kept read a.is_load b.leaves a.leaves (not b.alone) a.is_observable (is_barred mode) above.leaves above.observable)
     ∙ by_kept a.latency tied behind read kept
 
 pub quiet_delay_is : (m : Numbers) (mode : Mode) (t : Trace) (standings : List Standing) (lives : List (List Bool)) (i j : ℕ) (a b : Standing) (d : Option ℕ) → standings ≡ standings_of m t → lives ≡ lives_of t → i < j → slice_get standings i ≡ Some a → slice_get standings j ≡ Some b
@@ -122,51 +123,79 @@ split_at m t i s is e =
     let same : s.traits ≡ traits_of m is.op = ap (λ (x : Standing). x.traits) is.is in
     subst IsSplit (sym same) (split_op m is.op (sym (ap (λ (x : Traits). x.leaves) same) ∙ e))
 
-record IsUnseen (v p barred : Bool) : Type 0 where
-  leaves : v ≡ false
+record IsUnseen (alone p barred : Bool) : Type 0 where
+  shares : alone ≡ false
   observable : p ≡ false
   free : barred ≡ false
 
-unseen : (v s p live barred : Bool) → ((((v || s) || p) || live) || barred) ≡ false → IsUnseen v p barred
+unseen : (alone s p live barred : Bool) → ((((alone || s) || p) || live) || barred) ≡ false → IsUnseen alone p barred
 unseen true s p live barred e = absurd (true≢false e)
 unseen false true p live barred e = absurd (true≢false e)
 unseen false false true live barred e = absurd (true≢false e)
 unseen false false false true barred e = absurd (true≢false e)
 unseen false false false false true e = absurd (true≢false e)
-unseen false false false false false e = record { leaves = refl; observable = refl; free = refl }
+unseen false false false false false e = record { shares = refl; observable = refl; free = refl }
 
-behind_is : (x v s j : Bool) → v ≡ true → (s ≡ false → x ≡ false) → (s ≡ false → j ≡ false) → ((x || (v && s)) || j) ≡ s
-behind_is x true true j e f g = or_left (x || true) j (or_right x true refl)
-behind_is x true false j e f g = neither (x || false) j (neither x false (f refl) refl) (g refl)
-behind_is x false s j e f g = absurd (false≢true e)
+behind_seen : (x v s j : Bool) → v ≡ true → s ≡ true → ((x || (v && s)) || j) ≡ true
+behind_seen x true true j e f = or_left (x || true) j (or_right x true refl)
+behind_seen x true false j e f = absurd (false≢true f)
+behind_seen x false s j e f = absurd (false≢true e)
 
-below_is : (r l v k : Bool) → v ≡ false → ((r || (false && l)) || (v && k)) ≡ r
-below_is true l v k e = refl
-below_is false l false k e = refl
-below_is false l true k e = absurd (true≢false e)
+or_none : (x : Bool) → (x || false) ≡ x
+or_none true = refl
+or_none false = refl
 
-by_seen : (l : ℕ) (tied behind below seen read : Bool) → tied ≡ false → behind ≡ seen → (seen ≡ false → below ≡ read)
-    → (if tied then at_least l (if behind then Some 1 else (if below then Some 0 else None)) else (if behind then Some 1 else (if below then Some 0 else None))) ≡ (if seen then Some 1 else (if read then Some 0 else None))
-by_seen l true behind below seen read e f g = absurd (true≢false e)
-by_seen l false true below true read e f g = refl
-by_seen l false true below false read e f g = absurd (true≢false f)
-by_seen l false false below true read e f g = absurd (false≢true f)
-by_seen l false false below false read e f g = ap (λ x. if x then Some 0 else None) (g refl)
+-- what is not seen stays behind a join alone, where it is a split
+behind_join : (x v s j p b barred : Bool) → x ≡ false → s ≡ false → p ≡ false → barred ≡ false → ((x || (v && s)) || (j && ((p || b) || barred))) ≡ (j && b)
+behind_join false true false j false b false e f g h = ap (λ y. j && y) (or_none b)
+behind_join false false false j false b false e f g h = ap (λ y. j && y) (or_none b)
+behind_join true v s j p b barred e f g h = absurd (true≢false e)
+behind_join false v true j p b barred e f g h = absurd (true≢false f)
+behind_join false v false j true b barred e f g h = absurd (true≢false g)
+behind_join false v false j false b true e f g h = absurd (true≢false h)
 
-split_rows : (mode : Mode) (a b : Traits) (last joined live : Bool) → IsSplit a → a.leaves ≡ true → delay_of mode a b (record { last = last; touch = false; joined = joined; live = live }) ≡ split_delay_of mode a b live
+below_unseen : (r l b v alone o k : Bool) → v ≡ true → alone ≡ false → ((r || (false && l)) || (b && (((v && not alone) || o) || k))) ≡ (r || b)
+below_unseen true l b v alone o k e f = refl
+below_unseen false l false v alone o k e f = refl
+below_unseen false l true true false o k e f = refl
+below_unseen false l true false alone o k e f = absurd (false≢true e)
+below_unseen false l true true true o k e f = absurd (true≢false f)
+
+abbrev by_two : (behind below : Bool) → Option ℕ
+by_two behind below = if behind then Some 1 else (if below then Some 0 else None)
+
+abbrev by_kind : (joined b read : Bool) → Option ℕ
+by_kind joined b read = if b then (if joined then Some 1 else Some 0) else (if read then Some 0 else None)
+
+of_split : (joined b read : Bool) → by_two (joined && b) (read || b) ≡ by_kind joined b read
+of_split true true read = refl
+of_split false true true = refl
+of_split false true false = refl
+of_split true false true = refl
+of_split true false false = refl
+of_split false false true = refl
+of_split false false false = refl
+
+by_seen : (l : ℕ) (tied behind below seen joined b read : Bool) → tied ≡ false → (seen ≡ true → behind ≡ true) → (seen ≡ false → behind ≡ (joined && b)) → (seen ≡ false → below ≡ (read || b))
+    → (if tied then at_least l (by_two behind below) else by_two behind below) ≡ (if seen then Some 1 else by_kind joined b read)
+by_seen l true behind below seen joined b read e f g h = absurd (true≢false e)
+by_seen l false behind below true joined b read e f g h = ap (λ x. by_two x below) (f refl)
+by_seen l false behind below false joined b read e f g h = ap (λ x. by_two x below) (g refl) ∙ ap (by_two (joined && b)) (h refl) ∙ of_split joined b read
+
+split_rows : (mode : Mode) (a b : Traits) (last joined live : Bool) → IsSplit a → a.leaves ≡ true → delay_of mode a b (record { last = last; touch = false; joined = joined; live = live }) ≡ split_delay_of mode a b joined live
 split_rows mode a b last joined live split leaves =
     let w : Ways = record { last = last; touch = false; joined = joined; live = live } in
-    by_seen a.latency (are_tied a b last) (stays_behind mode a b w) (stays_below mode a b w) (stays_behind_split mode b w) (has b.written (values_read a.reads)) (split.untied b last)
-    (behind_is ((false && a.is_store) || (a.is_observable && b.is_observable)) a.leaves (stays_behind_split mode b w) (joined && stays_behind_join mode b) leaves
-    (λ e. not_both a.is_observable b.is_observable (none e).observable)
-    (λ e. not_both joined (stays_behind_join mode b) (neither (b.is_observable || b.leaves) (is_barred mode) (neither b.is_observable b.leaves (none e).observable (none e).leaves) (none e).free)))
-    (λ e. below_is (has b.written (values_read a.reads)) a.is_load b.leaves (a.is_observable || is_barred mode) (none e).leaves)
+    let other : Bool = (false && a.is_store) || (a.is_observable && b.is_observable) in
+    by_seen a.latency (are_tied a b last) (stays_behind mode a b w) (stays_below mode a b w) (stays_behind_split mode b w) joined b.leaves (has b.written (values_read a.reads)) (split.untied b last)
+    (λ e. behind_seen other a.leaves (stays_behind_split mode b w) (joined && stays_behind_join mode b) leaves e)
+    (λ e. behind_join other a.leaves (stays_behind_split mode b w) joined b.is_observable b.leaves (is_barred mode) (not_both a.is_observable b.is_observable (none e).observable) e (none e).observable (none e).free)
+    (λ e. below_unseen (has b.written (values_read a.reads)) a.is_load b.leaves a.leaves b.alone a.is_observable (is_barred mode) leaves (none e).shares)
   where
-    none : ((is_seen b || live) || is_barred mode) ≡ false → IsUnseen b.leaves b.is_observable (is_barred mode)
-    none e = unseen b.leaves b.is_store b.is_observable live (is_barred mode) e
+    none : ((is_seen b || live) || is_barred mode) ≡ false → IsUnseen b.alone b.is_observable (is_barred mode)
+    none e = unseen b.alone b.is_store b.is_observable live (is_barred mode) e
 
 pub split_delay_is : (m : Numbers) (mode : Mode) (t : Trace) (standings : List Standing) (lives : List (List Bool)) (i j : ℕ) (a b : Standing) (d : Option ℕ) → standings ≡ standings_of m t → lives ≡ lives_of t → i < j → slice_get standings i ≡ Some a → slice_get standings j ≡ Some b
-    → a.traits.leaves ≡ true → d ≡ split_delay_of mode a.traits b.traits (is_live (slice_get lives i) i j) → IsDelay m mode t i j d
+    → a.traits.leaves ≡ true → d ≡ split_delay_of mode a.traits b.traits (has_join b i) (is_live (slice_get lives i) i j) → IsDelay m mode t i j d
 split_delay_is m mode t standings lives i j a b d exact lives_exact in_order at_one at_two leaves is =
     let split = split_at m t i a (entry_at m t standings exact i a at_one) leaves in
     let live : Bool = is_live (slice_get lives i) i j in

@@ -1,6 +1,6 @@
 -- How many words an operation of a trace has to stand behind an earlier one, and how long the way is from an operation to
 -- the end of the trace. In mode Free operations pass splits and joins; in mode Barred they do not.
-use Rattle.std.specs.Prelude.{◌≡◌, ◌<◌, ◌≤◌, ◌⊎◌, ◌+◌, ℕ, Bool, true, false, Option, Some, None, List, [], ◌∷◌, length, slice_get}
+use Rattle.std.specs.Prelude.{◌≡◌, ◌<◌, ◌≤◌, ◌⊎◌, ◌+◌, ◌==◌, ℕ, Bool, true, false, if◌then◌else◌, Option, Some, None, List, [], ◌∷◌, length, slice_get}
 use Rattle.vx_flow.specs.declared.graph.Op.TheVariants.{Load, Store}
 use Rattle.vx_flow.specs.declared.trace.TraceOp.{TraceOp}
 use Rattle.vx_flow.specs.declared.trace.TraceOp.TheVariants.{Plain, Split}
@@ -73,6 +73,10 @@ pub record NeverMeet (t : Trace) (i j : ℕ) : Type 0 where
   pub form_two : slice_get (forms_of t) j ≡ Some (Some two)
   pub never : NeverSame one two
 
+-- two splits may stand in one word, in their order, where the machine issues two branches
+abbrev pub between_splits : Numbers → ℕ
+between_splits m = if m.branches == 1 then 1 else 0
+
 -- the table: a stands at place i of the trace, b at place j below it, and b has to stand so many words behind a
 pub data Row (m : Numbers) (mode : Mode) (t : Trace) (i j : ℕ) (a b : TraceOp) : ℕ → Type 0 where
   -- b reads what a wrote last, or writes what a writes, or writes what a reads
@@ -83,7 +87,7 @@ pub data Row (m : Numbers) (mode : Mode) (t : Trace) (i j : ℕ) (a b : TraceOp)
   access_behind_store : is_store a ≡ true → (is_load b ≡ true) ⊎ (is_store b ≡ true) → (NeverMeet t i j → ⊥) → Row m mode t i j a b 1
   store_behind_load : is_load a ≡ true → is_store b ≡ true → (NeverMeet t i j → ⊥) → Row m mode t i j a b 0
   both_observable : is_observable a ≡ true → is_observable b ≡ true → Row m mode t i j a b 1
-  both_splits : leaves a ≡ true → leaves b ≡ true → Row m mode t i j a b 1
+  both_splits : leaves a ≡ true → leaves b ≡ true → Row m mode t i j a b (between_splits m)
   -- what would be seen where the split leaves stays below it
   seen_behind_split : leaves a ≡ true → (is_store b ≡ true) ⊎ (is_observable b ≡ true) → Row m mode t i j a b 1
   live_behind_split : (v : ℕ) → leaves a ≡ true → IsIn v (live_off a) → IsIn v (writes_of b) → Row m mode t i j a b 1

@@ -23,7 +23,7 @@ are_tied a b last = (last && has a.written (values_read b.reads)) || write_alike
 -- a row with the number 1 applies
 
 abbrev pub stays_behind_split : Mode → Traits → Ways → Bool
-stays_behind_split mode b w = (((b.leaves || b.is_store) || b.is_observable) || w.live) || is_barred mode
+stays_behind_split mode b w = (((b.alone || b.is_store) || b.is_observable) || w.live) || is_barred mode
 
 abbrev pub stays_behind_join : Mode → Traits → Bool
 stays_behind_join mode b = (b.is_observable || b.leaves) || is_barred mode
@@ -33,8 +33,13 @@ stays_behind mode a b w =
     (((w.touch && a.is_store) || (a.is_observable && b.is_observable)) || (a.leaves && stays_behind_split mode b w)) || (w.joined && stays_behind_join mode b)
 
 -- a row with the number 0 applies
+
+-- a split below stays below: beside a split in one word, or behind what is observable
+abbrev pub keeps_split : Traits → Traits → Bool
+keeps_split a b = (a.leaves && not b.alone) || a.is_observable
+
 abbrev pub stays_below : Mode → Traits → Traits → Ways → Bool
-stays_below mode a b w = (has b.written (values_read a.reads) || (w.touch && a.is_load)) || (b.leaves && (a.is_observable || is_barred mode))
+stays_below mode a b w = (has b.written (values_read a.reads) || (w.touch && a.is_load)) || (b.leaves && (keeps_split a b || is_barred mode))
 
 abbrev pub row_of : Mode → Traits → Traits → Ways → Option ℕ
 row_of mode a b w = if stays_behind mode a b w then Some 1 else (if stays_below mode a b w then Some 0 else None)
@@ -59,13 +64,14 @@ abbrev pub quiet_delay_of : Mode → Traits → Traits → (last joined : Bool) 
 quiet_delay_of mode a b last joined =
     if joined && stays_behind_join mode b then at_least 1 (values_delay_of a b last) else (if b.leaves && is_barred mode then at_least 0 (values_delay_of a b last) else values_delay_of a b last)
 
--- a split, or what is seen where a split above it leaves
+-- a split that shares its word with none, or what is seen where a split above it leaves
 abbrev pub is_seen : Traits → Bool
-is_seen b = (b.leaves || b.is_store) || b.is_observable
+is_seen b = (b.alone || b.is_store) || b.is_observable
 
--- the greatest number behind a split: it writes nothing and accesses no array
-abbrev pub split_delay_of : Mode → Traits → Traits → (live : Bool) → Option ℕ
-split_delay_of mode a b live = if (is_seen b || live) || is_barred mode then Some 1 else (if has b.written (values_read a.reads) then Some 0 else None)
+-- the greatest number behind a split: it writes nothing and accesses no array; a split that may share its word stays behind a join
+abbrev pub split_delay_of : Mode → Traits → Traits → (joined live : Bool) → Option ℕ
+split_delay_of mode a b joined live =
+    if (is_seen b || live) || is_barred mode then Some 1 else (if b.leaves then (if joined then Some 1 else Some 0) else (if has b.written (values_read a.reads) then Some 0 else None))
 
 -- accesses of which one is a store, and that may touch one word
 pub record MayTouch (t : Trace) (i j : ℕ) (a b : Traits) : Type 0 where

@@ -1,5 +1,5 @@
 -- What delays ask of an operation of a trace: the values that it reads and the one that it writes, its kind and its latency.
-use Rattle.std.specs.Prelude.{ℕ, Bool, false, nat_eq, Option, Some, None, List, ◌||◌}
+use Rattle.std.specs.Prelude.{ℕ, Bool, false, nat_eq, Option, Some, None, List, ◌&&◌, ◌||◌, ◌==◌}
 use Rattle.std.specs.List.{list_any}
 use Rattle.vx_flow.specs.declared.operands.Reads.{Reads}
 use Rattle.vx_flow.specs.declared.trace.TraceOp.{TraceOp}
@@ -33,6 +33,10 @@ is_access op = is_load op || is_store op
 abbrev pub is_fixed : TraceOp → Bool
 is_fixed op = is_observable op || leaves op
 
+-- a split shares its word with no other one where the machine issues one branch
+abbrev pub is_alone : Numbers → TraceOp → Bool
+is_alone m op = leaves op && (m.branches == 1)
+
 -- all that is asked of an operation
 abbrev pub traits_of : Numbers → TraceOp → Traits
 traits_of m op = record {
@@ -42,6 +46,7 @@ traits_of m op = record {
   is_store = is_store op;
   is_observable = is_observable op;
   leaves = leaves op;
+  alone = is_alone m op;
   is_access = is_access op;
   is_fixed = is_fixed op;
   latency = latency_of m op;

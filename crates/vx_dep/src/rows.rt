@@ -2,7 +2,7 @@
 // stand, which rows apply, and the greatest number among those. specs/Rows.antt says the same.
 
 ghost use Rattle.std.specs.Prelude.{◌≡◌};
-ghost use Rattle.vx_dep.specs.Rows.{is_barred, are_tied, stays_behind, stays_behind_split, stays_behind_join, stays_below, row_of, at_least, delay_of, are_quiet, values_delay_of, quiet_delay_of, is_seen};
+ghost use Rattle.vx_dep.specs.Rows.{is_barred, are_tied, stays_behind, stays_behind_split, stays_behind_join, keeps_split, stays_below, row_of, at_least, delay_of, are_quiet, values_delay_of, quiet_delay_of, is_seen};
 
 use crate::mode::Mode;
 use crate::traits::{Traits, reads_written, write_alike};
@@ -84,11 +84,11 @@ fn at_least(least: u32, delay: Option<u32>) -> Option<u32>
     }
 }
 
-/// Whether an operation is a split, or is seen where a split above it leaves.
+/// Whether an operation is a split that shares its word with none, or is seen where a split above it leaves.
 pub(crate) fn is_seen(b: &Traits) -> bool
     ensures { result ≡ is_seen b.now }
 {
-    b.leaves || b.is_store || b.is_observable
+    b.alone || b.is_store || b.is_observable
 }
 
 /// The greatest number of the rows but those of a latency.
@@ -124,7 +124,7 @@ fn stays_behind(mode: Mode, a: &Traits, b: &Traits, ways: Ways) -> bool
 fn stays_behind_split(mode: Mode, b: &Traits, ways: Ways) -> bool
     ensures { result ≡ stays_behind_split mode b.now ways }
 {
-    b.leaves || b.is_store || b.is_observable || ways.live || is_barred(mode)
+    b.alone || b.is_store || b.is_observable || ways.live || is_barred(mode)
 }
 
 fn stays_behind_join(mode: Mode, b: &Traits) -> bool
@@ -139,7 +139,14 @@ fn stays_below(mode: Mode, a: &Traits, b: &Traits, ways: Ways) -> bool
 {
     reads_written(a, b)
         || (ways.touch && a.is_load)
-        || (b.leaves && (a.is_observable || is_barred(mode)))
+        || (b.leaves && (keeps_split(a, b) || is_barred(mode)))
+}
+
+/// Whether a split below stays below: beside a split in one word, or behind what is observable.
+fn keeps_split(a: &Traits, b: &Traits) -> bool
+    ensures { result ≡ keeps_split a.now b.now }
+{
+    (a.leaves && !b.alone) || a.is_observable
 }
 
 pub(crate) fn is_barred(mode: Mode) -> bool

@@ -187,7 +187,7 @@ impl<'a> Sight<'a> {
         ensures { IsDelay self.now.machine self.now.mode self.now.trace.now i j result }
     {
         if a.traits.leaves {
-            self.split_delay(i, j, &a.traits, &b.traits)
+            self.split_delay(i, j, &a.traits, &b.traits, has_join(b, i))
         } else if are_quiet(&a.traits, &b.traits) {
             let last = reaches(a, i, j);
             quiet_delay_of(self.mode, &a.traits, &b.traits, last, has_join(b, i))
@@ -196,13 +196,16 @@ impl<'a> Sight<'a> {
         }
     }
 
-    /// The delay of a pair with a split above.
-    fn split_delay(&self, i: usize, j: usize, a: &Traits, b: &Traits) -> Option<u32>
+    /// The delay of a pair with a split above. A split below may share its word where the machine issues
+    /// two branches, nothing is barred, and no join stands between them.
+    fn split_delay(&self, i: usize, j: usize, a: &Traits, b: &Traits, joined: bool) -> Option<u32>
         requires { i < j }
-        ensures { result ≡ split_delay_of self.now.mode a.now b.now (is_live (slice_get self.now.lives i) i j) }
+        ensures { result ≡ split_delay_of self.now.mode a.now b.now joined (is_live (slice_get self.now.lives i) i j) }
     {
         if is_seen(b) || is_live(self.lives.as_slice(), i, j) || is_barred(self.mode) {
             Some(1)
+        } else if b.leaves {
+            if joined { Some(1) } else { Some(0) }
         } else if reads_written(a, b) {
             Some(0)
         } else {

@@ -26,6 +26,8 @@ pub(crate) struct Traits {
     pub(crate) is_observable: bool,
     /// It is a split.
     pub(crate) leaves: bool,
+    /// It is a split, and no other split may stand in its word.
+    pub(crate) alone: bool,
     /// It is a load or a store.
     pub(crate) is_access: bool,
     /// It is observable or a split.
@@ -46,6 +48,7 @@ pub(crate) fn traits_of(machine: &Machine, op: &TraceOp) -> Traits
         is_store: is_store(op),
         is_observable: item.is_observable(),
         leaves: item.is_split(),
+        alone: item.is_split() && machine.branches() == 1,
         is_access: is_load(op) || is_store(op),
         is_fixed: item.is_observable() || item.is_split(),
         latency: machine.latency_of_item(&item),
