@@ -103,7 +103,7 @@ some_of_kind m s Alu = s.alus.least
 some_of_kind m s Multiply = s.multipliers.least
 some_of_kind m s Memory = s.memory_units.least
 some_of_kind m s Copies = s.copy_paths.least
-some_of_kind m s Control = omega arith
+some_of_kind m s Control = s.branches.least
 
 module _ (m : Numbers) (machine : IsMachine m) (bookings : List Booking) (cluster : ℕ) (unit : UnitKind) where
   abbrev free : ℕ → Bool

@@ -124,9 +124,9 @@ units_of m Alu = m.alus
 units_of m Multiply = m.multipliers
 units_of m Memory = m.memory_units
 units_of m Copies = m.copy_paths
-units_of m Control = 1
+units_of m Control = m.branches
 
--- copy paths and the control place are the machine's, whatever the cluster
+-- copy paths and control places are the machine's, whatever the cluster
 abbrev pub counts_at : UnitKind → ℕ → ℕ → Bool
 counts_at Copies cluster other = true
 counts_at Control cluster other = true

@@ -134,7 +134,7 @@ fn units_of(machine: &Machine, unit: UnitKind) -> u32
         UnitKind::Multiply => machine.multipliers(),
         UnitKind::Memory => machine.memory_units(),
         UnitKind::Copies => machine.copy_paths(),
-        UnitKind::Control => 1,
+        UnitKind::Control => machine.branches(),
     }
 }
 
@@ -163,7 +163,7 @@ fn same_unit(one: UnitKind, other: UnitKind) -> bool
     }
 }
 
-/// Copy paths and the control place are the machine's, whatever the cluster.
+/// Copy paths and control places are the machine's, whatever the cluster.
 fn counts_at(unit: UnitKind, cluster: u32, other: u32) -> bool
     ensures { result ≡ counts_at unit cluster other }
 {

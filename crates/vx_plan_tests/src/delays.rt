@@ -1,6 +1,6 @@
 // Delays and heights of small traces, worked out by hand from the table of delays.
 
-use crate::traces::{PRINTING, SINKING, WITHOUT_ELSE};
+use crate::traces::{PRINTING, SINKING, TWO_SPLITS, WITHOUT_ELSE};
 use std::alloc::Global;
 use std::test::Fail;
 use vx_base::arithmetic::Code;
@@ -79,7 +79,7 @@ type Row = (
     &'static [Delay],
 );
 
-const ROWS: [Row; 11] = [
+const ROWS: [Row; 15] = [
     (
         &WITHOUT_ELSE,
         &[4],
@@ -237,6 +237,44 @@ const ROWS: [Row; 11] = [
             (5, 7, Some(1)),
             (6, 7, Some(1)),
         ],
+    ),
+    // two splits: by the branches of a word, but for a join between them, and where nothing passes a split
+    (
+        &TWO_SPLITS,
+        &[],
+        Kind::TwoBranches,
+        Mode::Free,
+        &[2, 2, 0, 0],
+        &[
+            (0, 2, Some(2)),
+            (1, 2, None),
+            (1, 3, Some(2)),
+            (2, 3, Some(0)),
+        ],
+    ),
+    (
+        &TWO_SPLITS,
+        &[],
+        Kind::Vex,
+        Mode::Free,
+        &[3, 2, 1, 0],
+        &[(2, 3, Some(1))],
+    ),
+    (
+        &TWO_SPLITS,
+        &[3],
+        Kind::TwoBranches,
+        Mode::Free,
+        &[3, 2, 1, 0],
+        &[(2, 3, Some(1))],
+    ),
+    (
+        &TWO_SPLITS,
+        &[],
+        Kind::TwoBranches,
+        Mode::Barred,
+        &[3, 2, 1, 0],
+        &[(1, 2, Some(0)), (2, 3, Some(1))],
     ),
 ];
 

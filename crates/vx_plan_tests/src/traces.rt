@@ -25,6 +25,14 @@ pub(crate) const SINKING: [Step<'static>; 7] = [
     Step::Sum(6, 5, 4),
 ];
 
+/// p8 = v1 < 10; p9 = v2 < 10; leave unless p8; leave unless p9.
+pub(crate) const TWO_SPLITS: [Step<'static>; 4] = [
+    Step::Below(8, 1, 10),
+    Step::Below(9, 2, 10),
+    Step::Split(8, &[]),
+    Step::Split(9, &[]),
+];
+
 /// p5 = v1 < 10; v3 = v1 + 5; v4 = v1 - 5; leave unless p5, to where v4 is live; print v3.
 pub(crate) const PRINTING: [Step<'static>; 5] = [
     Step::Below(5, 1, 10),

@@ -3,7 +3,7 @@
 ghost use Rattle.vx_bug.specs.Further.{RoomForEach};
 
 use crate::clusters::{SUMS, clusters_of};
-use crate::traces::{PRINTING, SINKING, WITHOUT_ELSE};
+use crate::traces::{PRINTING, SINKING, TWO_SPLITS, WITHOUT_ELSE};
 use std::alloc::Global;
 use std::test::Fail;
 use vx_base::arithmetic::Code;
@@ -25,6 +25,14 @@ const WITHOUT_TOTAL: [Step<'static>; 5] = [
     Step::On(Code::Mpylu, 4, 3, Operand::Held(1)),
 ];
 
+/// p8 = v1 < 10; leave unless p8, three times.
+const THREE_SPLITS: [Step<'static>; 4] = [
+    Step::Below(8, 1, 10),
+    Step::Split(8, &[]),
+    Step::Split(8, &[]),
+    Step::Split(8, &[]),
+];
+
 /// A trace, its joins and first homes, a machine, a mode, the words of the operations with their copies, and how many words there
 /// are.
 type Row = (
@@ -37,7 +45,7 @@ type Row = (
     u32,
 );
 
-const ROWS: [Row; 8] = [
+const ROWS: [Row; 12] = [
     (
         &WITHOUT_ELSE,
         &[4],
@@ -103,6 +111,43 @@ const ROWS: [Row; 8] = [
         3,
     ),
     (&[], &[], &[], Kind::Vex, Mode::Free, &[], 0),
+    // two splits in a word where it has two branches, and never three
+    (
+        &TWO_SPLITS,
+        &[],
+        &[],
+        Kind::TwoBranches,
+        Mode::Free,
+        &[0, 0, 2, 2],
+        3,
+    ),
+    (
+        &TWO_SPLITS,
+        &[],
+        &[],
+        Kind::Vex,
+        Mode::Free,
+        &[0, 0, 2, 3],
+        4,
+    ),
+    (
+        &TWO_SPLITS,
+        &[],
+        &[],
+        Kind::TwoBranches,
+        Mode::Barred,
+        &[0, 0, 2, 3],
+        4,
+    ),
+    (
+        &THREE_SPLITS,
+        &[],
+        &[],
+        Kind::TwoBranches,
+        Mode::Free,
+        &[0, 2, 2, 3],
+        4,
+    ),
 ];
 
 /// Whether the operations get these words, where each has room by itself.

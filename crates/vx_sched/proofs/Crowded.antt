@@ -54,7 +54,7 @@ module _ (m : Numbers) (homes : Homes) (row : List ClusteredItem) (x : Clustered
   abbrev longer : List ClusteredItem
   longer = row ++ x ∷ []
 
-  parts : Six (is_machine m) (stand_well m homes longer) (all_below m.clusters (has_room_at m homes longer)) (nat_le (count_in (needs Copies) longer) m.copy_paths) (nat_le (count_in is_split longer) 1) (nat_le (count_in is_observable_item longer) 1)
+  parts : Six (is_machine m) (stand_well m homes longer) (all_below m.clusters (has_room_at m homes longer)) (nat_le (count_in (needs Copies) longer) m.copy_paths) (nat_le (count_in is_split longer) m.branches) (nat_le (count_in is_observable_item longer) 1)
   parts = six_parts _ _ _ _ _ _ fits
 
   inside : x.cluster < m.clusters

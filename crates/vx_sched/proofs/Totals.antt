@@ -108,21 +108,21 @@ module _ (m : Numbers) (homes : Homes) (ys xs : List ClusteredItem) (within : Wi
 
   pub room_within : has_room m homes xs ≡ true → has_room m homes ys ≡ true
   room_within h =
-      let s = six_parts (is_machine m) (stand_well m homes xs) (all_below m.clusters (has_room_at m homes xs)) (nat_le (count_in (needs Copies) xs) m.copy_paths) (nat_le (count_in is_split xs) 1) (nat_le (count_in is_observable_item xs) 1) h in
-      six_together (is_machine m) (stand_well m homes ys) (all_below m.clusters (has_room_at m homes ys)) (nat_le (count_in (needs Copies) ys) m.copy_paths) (nat_le (count_in is_split ys) 1) (nat_le (count_in is_observable_item ys) 1)
+      let s = six_parts (is_machine m) (stand_well m homes xs) (all_below m.clusters (has_room_at m homes xs)) (nat_le (count_in (needs Copies) xs) m.copy_paths) (nat_le (count_in is_split xs) m.branches) (nat_le (count_in is_observable_item xs) 1) h in
+      six_together (is_machine m) (stand_well m homes ys) (all_below m.clusters (has_room_at m homes ys)) (nat_le (count_in (needs Copies) ys) m.copy_paths) (nat_le (count_in is_split ys) m.branches) (nat_le (count_in is_observable_item ys) 1)
       (record {
         one = s.one;
         two = stand s.two;
         three = all_below-holds (has_room_at m homes ys) m.clusters (λ k below. at_one k (all_below-at (has_room_at m homes xs) m.clusters k s.three below));
         four = at_most _ _ m.copy_paths (count_within _ ys xs within) s.four;
-        five = at_most _ _ 1 (count_within _ ys xs within) s.five;
+        five = at_most _ _ m.branches (count_within _ ys xs within) s.five;
         six = at_most _ _ 1 (count_within _ ys xs within) s.six;
       })
 
 -- nothing has room on a machine
 pub nothing_has_room : (m : Numbers) (homes : Homes) → is_machine m ≡ true → has_room m homes [] ≡ true
 nothing_has_room m homes is =
-    six_together (is_machine m) (stand_well m homes []) (all_below m.clusters (has_room_at m homes [])) (nat_le 0 m.copy_paths) (nat_le 0 1) (nat_le 0 1)
+    six_together (is_machine m) (stand_well m homes []) (all_below m.clusters (has_room_at m homes [])) (nat_le 0 m.copy_paths) (nat_le 0 m.branches) (nat_le 0 1)
     (record {
       one = is;
       two = refl;
@@ -135,7 +135,7 @@ nothing_has_room m homes is =
         six = le-leb 0 m.write_ports (omega arith);
       }));
       four = le-leb 0 m.copy_paths (omega arith);
-      five = refl;
+      five = le-leb 0 m.branches (omega arith);
       six = refl;
     })
 
