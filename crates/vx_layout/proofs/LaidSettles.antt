@@ -26,14 +26,14 @@ use Rattle.vx_mixed.specs.Live.{word_reads, word_writes}
 use Rattle.vx_mixed.specs.Settled.{NoTwice, Settled, has_home, home_of, bank_of, stands_for, StandsOn}
 use Rattle.vx_mixed.specs.Valid.{Valid, is_entrance, region_op}
 use Rattle.vx_mixed.specs.Layout.{leave_words, laid, place_of_node, place_of, layout_of, IsDone}
-use Rattle.vx_mixed.specs.LaidSettled.{laid_reads, laid_writes, or_zero, home_in, bank_in, LeadsTo, cycles_of, LeavesCold, Plans, Pends, written, later, SettledLayout}
+use Rattle.vx_mixed.specs.LaidSettled.{laid_reads, laid_writes, laid_ways, or_zero, home_in, bank_in, LeadsTo, cycles_of, LeavesCold, Plans, Pends, written, later, SettledLayout}
 use Rattle.vx_layout.specs.LayoutLaws.{AreItems, SameRoom, LayoutSettles}
 use Rattle.vx_mixed.proofs.Timed.{writer_of}
 use Rattle.vx_mixed.proofs.Standing.{StandsAt, get_some}
 use Rattle.vx_layout.proofs.DatedWords.{Dated, word_in, landed, waiting, given_in, given_at, left_before}
 use Rattle.vx_layout.proofs.LayoutPlaces.{dated, region_stands}
 use Rattle.vx_layout.proofs.LayoutKinds.{split_at, begins_at, DrainOf, at_exit, at_split, Kind, plans, drains, jumps, chooses, calls, returns, ends, kind_of, first_leave}
-use Rattle.vx_layout.proofs.LaidSources.{are_items, same_reads, same_writes, plain_from, plain_to, split_from, source_of, word_of, word_there, PlanOf, plan_of, plan_word}
+use Rattle.vx_layout.proofs.LaidSources.{are_items, same_reads, same_writes, ways_differ, plain_from, plain_to, split_from, source_of, word_of, word_there, PlanOf, plan_of, plan_word}
 use Rattle.vx_layout.proofs.LaidLeft.{max_is, Giver, given_cases, given_covers, none_at_end, none_at_split, none_where_named}
 
 -- a value that may be named on a cluster stands there
@@ -363,6 +363,7 @@ module _ (latency : Op → ℕ) (m : MixedGraph) (valid : Valid m) (done : IsDon
       entry = entry_within some;
       fits = λ p items h. let x = plan_of latency m p items h in same m.homes.clusters x.word items (subst (λ z. AreItems z x.word) (sym x.is) (are_items x.stands.at x.word)) ∙ settled.fits x.region x.number x.g x.word x.has_region x.has_word;
       once = λ p items h. let x = plan_of latency m p items h in subst NoTwice (sym (ap laid_writes x.is ∙ same_writes x.stands.at x.word)) ((settled.times x.region x.g x.has_region).once x.number x.word x.has_word);
+      ways = λ p items h. let x = plan_of latency m p items h in subst (λ z. NoTwice (laid_ways z)) (sym x.is) (ways_differ x.stands.at x.word);
       reads_home = λ p v cluster op items h i r. let x = plan_of latency m p items h in home_there v cluster ((settled.clusters x.region x.g x.has_region).reads x.number v cluster op x.word x.has_word (plain_from x.stands.at x.word op cluster (subst (IsIn (Plain op cluster)) x.is i)) r);
       writes_home = λ p v cluster op items h i r. let x = plan_of latency m p items h in home_there v cluster ((settled.clusters x.region x.g x.has_region).writes x.number v cluster op x.word x.has_word (plain_from x.stands.at x.word op cluster (subst (IsIn (Plain op cluster)) x.is i)) r);
       across = comes_across;

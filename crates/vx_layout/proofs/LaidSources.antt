@@ -1,5 +1,5 @@
 -- The planned words of a layout and the words of its regions, and where the code of a layout comes from.
-use Rattle.std.proofs.Common.{◌≡◌, ℕ, suc, ◌+◌, Bool, Option, Some, List, [], ◌∷◌, ◌++◌, length, slice_get, refl, sym, ap, ◌∙◌, subst, inl, inr}
+use Rattle.std.proofs.Common.{◌≡◌, ◌≤◌, ℕ, zero, suc, ◌+◌, Bool, Option, Some, List, [], ◌∷◌, ◌++◌, length, slice_get, refl, sym, ap, ◌∙◌, subst, inl, inr, arith}
 use Rattle.vx_flow.specs.declared.graph.Op.{Op}
 use Rattle.vx_flow.specs.declared.graph.Graph.{Graph}
 use Rattle.vx_flow.specs.declared.graph.Exit.{Exit}
@@ -17,9 +17,10 @@ use Rattle.vx_mixed.specs.declared.layout.VirtualWord.TheVariants.{Planned, Drai
 use Rattle.vx_mixed.specs.declared.layout.VWords.{VWords}
 use Rattle.vx_mixed.specs.declared.mixed.MixedGraph.{MixedGraph}
 use Rattle.vx_mixed.specs.Live.{word_reads, word_writes}
+use Rattle.vx_mixed.specs.Settled.{NoTwice}
 use Rattle.vx_mixed.specs.Valid.{region_op}
 use Rattle.vx_mixed.specs.Layout.{stub, laid, place_of, layout_of}
-use Rattle.vx_mixed.specs.LaidSettled.{laid_reads, laid_writes, Plans}
+use Rattle.vx_mixed.specs.LaidSettled.{laid_reads, laid_writes, laid_ways, Plans}
 use Rattle.vx_layout.specs.LayoutLaws.{AreItems, LayoutComesFromGraph}
 use Rattle.vx_layout.specs.Origins.{ComesFromGraph, LaidFromGraph, ExitComesFrom}
 use Rattle.vx_mixed.proofs.Standing.{Source, mapped_from, get_mapped}
@@ -60,6 +61,25 @@ pub same_reads : (at : ℕ) (word : List Item) → laid_reads (laid at word) ≡
 same_reads at [] = refl
 same_reads at (PlainItem o c ∷ items) = ap (λ z. reads o ++ z) (same_reads at items)
 same_reads at (SplitItem p y e d ∷ items) = ap (λ z. p ∷ z) (same_reads (at + length (stub (λ b. 0) (SplitItem p y e d))) items)
+
+-- the ways out of a word begin at a place, and each has a word at least, so that no two of its splits leave to one place
+
+ways_behind : (at : ℕ) (word : List Item) (q : ℕ) → IsIn q (laid_ways (laid at word)) → at ≤ q
+ways_behind at [] q h = absurd h
+ways_behind at (PlainItem o c ∷ items) q h = ways_behind at items q h
+ways_behind at (SplitItem p y e d ∷ items) q (inl f) = omega arith
+ways_behind at (SplitItem p y e d ∷ items) q (inr h) = let a = ways_behind (at + length (stub (λ b. 0) (SplitItem p y e d))) items q h in omega arith
+
+some_way : (p : ℕ) (y : Bool) (e : Edge) (d : ℕ) → 1 ≤ length (stub (λ b. 0) (SplitItem p y e d))
+some_way p y e zero = omega arith
+some_way p y e (suc d) = omega arith
+
+pub ways_differ : (at : ℕ) (word : List Item) → NoTwice (laid_ways (laid at word))
+ways_differ at [] = tt
+ways_differ at (PlainItem o c ∷ items) = ways_differ at items
+ways_differ at (SplitItem p y e d ∷ items) =
+    let more = at + length (stub (λ b. 0) (SplitItem p y e d)) in
+    (λ h. absurd (let a = ways_behind more items at h in let b = some_way p y e d in omega arith), ways_differ more items)
 
 pub same_writes : (at : ℕ) (word : List Item) → laid_writes (laid at word) ≡ word_writes word
 same_writes at [] = refl

@@ -29,6 +29,15 @@ laid_reads items = flat_map item_reads items
 abbrev pub laid_writes : List Laid → List ℕ
 laid_writes items = flat_map item_writes items
 
+-- and the places to which their splits leave
+
+abbrev pub item_ways : Laid → List ℕ
+item_ways (Plain op cluster) = []
+item_ways (Split p y q) = q ∷ []
+
+abbrev pub laid_ways : List Laid → List ℕ
+laid_ways items = flat_map item_ways items
+
 -- the cluster on which a value stands: its home, or the one to which it is a copy; a value that no operation names stands on
 -- cluster 0
 abbrev pub or_zero : Option ℕ → ℕ
@@ -81,9 +90,10 @@ pub record SettledLayout (room : List (Option ℕ) → List Laid → Bool) (late
   -- every word leads to one of the layout, and so does the entry
   pub inside : (p q : ℕ) (word : VirtualWord) → slice_get l.words p ≡ Some word → LeadsTo p word q → q < length l.words
   pub entry : l.entry < length l.words
-  -- the machine has room for each planned word, which writes no value twice
+  -- the machine has room for each planned word, which writes no value twice, and whose splits leave to places that differ
   pub fits : (p : ℕ) (items : List Laid) → Plans l p items → room l.homes.clusters items ≡ true
   pub once : (p : ℕ) (items : List Laid) → Plans l p items → NoTwice (laid_writes items)
+  pub ways : (p : ℕ) (items : List Laid) → Plans l p items → NoTwice (laid_ways items)
   -- each operation names values of its own cluster, but for the operand of a copy across; a split tests a branch value
   pub reads_home : (p v cluster : ℕ) (op : Op) (items : List Laid) → Plans l p items → IsIn (Plain op cluster) items → IsIn v (read_there op) → stands_for (bank_in l v) (Some (home_in l v)) cluster
   pub writes_home : (p v cluster : ℕ) (op : Op) (items : List Laid) → Plans l p items → IsIn (Plain op cluster) items → IsIn v (writes op) → stands_for (bank_in l v) (Some (home_in l v)) cluster
