@@ -57,12 +57,6 @@ module _ (T : Target) (f g v : ℕ) (x : Operand) (vs : List ℕ) (xs : List Ope
   beside : calls_beside T g vs (passes T f g v x) ≡ last
   beside = ap (λ (w : Word). is_none vs && fits T.machine w.ops) (sym is_word) ∙ sym is_last
 
-  pub passed_last : (new : List Word) → new ≡ brought ++ word ∷ [] → last ≡ true → new ≡ old ++ argument_words T f g (v ∷ vs) (x ∷ xs)
-  passed_last new e t =
-      e ∙ ap (λ z. z ++ word ∷ []) is_brought ∙ append_assoc old (fetch_words T f T.frame x) (word ∷ [])
-      ∙ ap (λ (w : Word). old ++ (fetch_words T f T.frame x ++ w ∷ [])) is_word
-      ∙ ap (λ b. old ++ Either b) (sym (beside ∙ t))
-
   pub passed_more : (new : List Word) (store : Operation) → store ≡ passes T f g v x → new ≡ brought ++ one store ∷ [] → last ≡ false → new ++ argument_words T f g vs xs ≡ old ++ argument_words T f g (v ∷ vs) (x ∷ xs)
   passed_more new store s e t =
       let rest : List Word = argument_words T f g vs xs in

@@ -8,6 +8,7 @@ ghost use Rattle.vx_target.specs.Target.{carried_items, plan_word, plan_words, l
 ghost use Rattle.vx_target.specs.Placed.{item_landings, words_of};
 ghost use Rattle.vx_slots.specs.Seen.{seen};
 ghost use Rattle.vx_carry.specs.Planning.{IsPlan};
+ghost use Rattle.vx_carry.specs.Landings.{item_spots};
 
 use crate::lookups::landing;
 use crate::operations::carried;
@@ -22,7 +23,7 @@ use vx_machine::items::Item;
 use vx_mixed::layout::Laid;
 use vx_regs::touches::{read_by, written, written_by};
 use vx_slots::numbers::MOST_NAMES;
-use vx_slots::program::{Whole, start};
+use vx_slots::program::{SplitLanding, Whole, start};
 use vx_slots::registers::{branch_of, is_slotted, once, slotted};
 use vx_slots::transfers::{load_slots, push_one, push_pause, push_wait, store_slots};
 use vx_slots::ways::past;
@@ -98,7 +99,7 @@ fn leads(whole: &Whole, plan: &Plan, to: u32) -> u32
 {
     match plan.left.as_slice().split_first() {
         None => start(whole, plan.function, past(whole, plan.function, to)),
-        Some(_) => landing(whole, plan.function, plan.place),
+        Some(_) => landing(whole, plan.function, plan.place, to),
     }
 }
 
@@ -236,20 +237,24 @@ fn push_landing(
     push_one(alloc, Operation::Goto { target }, words)
 }
 
-/// The landing of an item of a planned word, where it has one.
+/// The landing of an item of a planned word, where it has one; where it stands is noted for each split.
 fn push_item_landing(
     alloc: Global,
     whole: &Whole,
     plan: &Plan,
     item: &Laid,
     words: &mut Listed<Word>,
+    spots: &mut Listed<SplitLanding>,
 ) -> Result<(), NoMemory>
     requires { IsPlan (seen whole.now) plan.now }
-    ensures { IfOk result (λ _. words.new ≡ words.old ++ words_of (item_landings (seen whole.now) plan.now.function plan.now.place plan.now.items.now (item.now ∷ []))) }
+    ensures words { IfOk result (λ _. words.new ≡ words.old ++ words_of (item_landings (seen whole.now) plan.now.function plan.now.place plan.now.items.now (item.now ∷ []))) }
+    ensures spots { IfOk result (λ _. spots.new ≡ spots.old ++ item_spots (seen whole.now) plan.now.function plan.now.place (length words.old) plan.now.items.now (item.now ∷ [])) }
 {
     match item {
         Laid::Plain { .. } => Ok(()),
         Laid::Split { place, .. } => {
+            let at = words.len() as u32;
+            spots.push(SplitLanding { to: *place, at })?;
             if plan.left.is_empty() {
                 Ok(())
             } else {
@@ -259,22 +264,24 @@ fn push_item_landing(
     }
 }
 
-/// The landings of some items of a planned word.
+/// The landings of some items of a planned word, and where they stand.
 pub fn push_item_landings(
     alloc: Global,
     whole: &Whole,
     plan: &Plan,
     items: &[Laid],
     words: &mut Listed<Word>,
+    spots: &mut Listed<SplitLanding>,
 ) -> Result<(), NoMemory>
     requires { IsPlan (seen whole.now) plan.now }
-    ensures { IfOk result (λ _. words.new ≡ words.old ++ words_of (item_landings (seen whole.now) plan.now.function plan.now.place plan.now.items.now items.now)) }
+    ensures words { IfOk result (λ _. words.new ≡ words.old ++ words_of (item_landings (seen whole.now) plan.now.function plan.now.place plan.now.items.now items.now)) }
+    ensures spots { IfOk result (λ _. spots.new ≡ spots.old ++ item_spots (seen whole.now) plan.now.function plan.now.place (length words.old) plan.now.items.now items.now) }
 {
     match items.split_first() {
         None => Ok(()),
         Some((item, rest)) => {
-            push_item_landing(alloc, whole, plan, item, words)?;
-            push_item_landings(alloc, whole, plan, rest, words)
+            push_item_landing(alloc, whole, plan, item, words, spots)?;
+            push_item_landings(alloc, whole, plan, rest, words, spots)
         }
     }
 }

@@ -1,12 +1,12 @@
 // What the words that carry a planned one take from a whole program.
 
-ghost use Rattle.std.specs.Prelude.{◌≡◌, slice_index_or};
+ghost use Rattle.std.specs.Prelude.{◌≡◌};
 ghost use Rattle.vx_target.specs.Target.{is_handed, is_own, offset_of};
-ghost use Rattle.vx_slots.specs.Seen.{places_of, seen};
+ghost use Rattle.vx_slots.specs.Seen.{landed, seen};
 
 use vx_flow::arrays::{is_handed, is_local};
 use vx_flow::graph::ArrayId;
-use vx_slots::program::{Whole, number_at};
+use vx_slots::program::{SplitLanding, Whole, number_at};
 
 /// Where an array that a function sees begins, in words.
 pub(crate) fn array_at(whole: &Whole, function: u32, array: ArrayId) -> u32
@@ -39,12 +39,31 @@ pub(crate) fn offset_of(whole: &Whole, function: u32, array: ArrayId) -> u32
     }
 }
 
-/// Where a taken split of the word at a place lands.
-pub(crate) fn landing(whole: &Whole, function: u32, place: u32) -> u32
-    ensures { result ≡ slice_index_or (places_of whole.now function).landings place 0 }
+/// Where the split that leaves to a place lands, of a word with these landings; 0 where none does.
+fn landed(landings: &[SplitLanding], to: u32) -> u32
+    ensures { result ≡ landed landings.now to }
+{
+    match landings.split_first() {
+        None => 0,
+        Some((landing, others)) => {
+            if landing.to == to {
+                landing.at
+            } else {
+                landed(others, to)
+            }
+        }
+    }
+}
+
+/// Where the taken split of the word at a place lands that leaves to another one.
+pub(crate) fn landing(whole: &Whole, function: u32, place: u32, to: u32) -> u32
+    ensures { result ≡ (seen whole.now).landing function place to }
 {
     match whole.places.get(function as usize) {
-        Some(places) => number_at(places.landings.as_slice(), place),
+        Some(places) => match places.landings.as_slice().get(place as usize) {
+            Some(landings) => landed(landings.as_slice(), to),
+            None => 0,
+        },
         None => 0,
     }
 }

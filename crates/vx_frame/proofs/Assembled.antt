@@ -1,25 +1,16 @@
 -- What was found for each function, and the words that stand where they were placed, make a program that carries its flow.
-use Rattle.std.proofs.Common.{◌≡◌, ◌<◌, ◌≤◌, ⊎_elim, ◌+◌, ℕ, zero, suc, true, false, nat_le, count_by, Some, List, [], ◌∷◌, length, map, slice_get, slice_index_or, refl, sym, ap, ◌∙◌, subst, arith}
-use Rattle.std.proofs.lemmas.Bool.{cases_lt, leb-true}
+use Rattle.std.proofs.Common.{◌≡◌, ◌<◌, ◌≤◌, ⊎_elim, ◌+◌, ℕ, zero, suc, true, false, Some, List, [], ◌∷◌, length, slice_get, slice_index_or, refl, sym, ap, ◌∙◌, subst, arith}
+use Rattle.std.proofs.lemmas.Bool.{cases_lt}
 use Rattle.std.proofs.lemmas.Option.{get_or_from_slice_get}
 use Rattle.vx_flow.specs.declared.graph.Array.{Array}
 use Rattle.vx_flow.specs.declared.graph.Graph.{Graph}
 use Rattle.vx_flow.specs.declared.graph.Flow.{Flow}
-use Rattle.vx_flow.specs.declared.trace.Homes.{Homes}
 use Rattle.vx_flow.specs.Effects.{IsIn}
 use Rattle.vx_flow.specs.Sound.{SoundFlow, is_sound_flow}
 use Rattle.vx_flow.proofs.SoundFlowLaw.{told}
 use Rattle.vx_isa.specs.declared.program.WordProgram.{WordProgram}
-use Rattle.vx_isa.specs.Numbers.{Numbers, is_machine}
-use Rattle.vx_isa.specs.declared.operation.UnitKind.TheVariants.{Copies}
-use Rattle.vx_isa.specs.Fits.{all_below}
-use Rattle.vx_isa.proofs.FitsLaw.{six_parts}
-use Rattle.vx_isa.proofs.Lists.{count_by-cons}
-use Rattle.vx_machine.specs.declared.items.ClusteredItem.{ClusteredItem}
-use Rattle.vx_machine.specs.Items.{latency_of_op, is_split, is_observable_item}
-use Rattle.vx_machine.specs.Room.{needs, count_in, has_room_at, stand_well}
-use Rattle.vx_mixed.specs.declared.layout.Laid.{Laid}
-use Rattle.vx_mixed.specs.declared.layout.Laid.TheVariants.{Plain, Split}
+use Rattle.vx_isa.specs.Numbers.{Numbers}
+use Rattle.vx_machine.specs.Items.{latency_of_op}
 use Rattle.vx_mixed.specs.declared.layout.VWords.{VWords}
 use Rattle.vx_layout.specs.Brief.{IsBriefLayout}
 use Rattle.vx_mixed.specs.LaidSettled.{SettledLayout, home_in}
@@ -34,14 +25,14 @@ use Rattle.vx_target.specs.declared.finished.Finished.{Finished}
 use Rattle.vx_slots.specs.declared.program.FunctionFrame.{FunctionFrame}
 use Rattle.vx_slots.specs.declared.program.Whole.{Whole}
 use Rattle.vx_target.specs.Target.{Target, is_slotted}
-use Rattle.vx_target.specs.Carried.{room_of, item_of_laid, IsMapped, IsSaved, NeedsSlot, is_passed, is_spilled, is_saved, HasWord, IsFramed, Carries}
+use Rattle.vx_target.specs.Carried.{room_of, IsMapped, IsSaved, NeedsSlot, is_passed, is_spilled, is_saved, HasWord, IsFramed, Carries}
 use Rattle.vx_target.specs.Tied.{IsFunction, words_before}
 use Rattle.vx_target.specs.Finish.{CanFinish, AllCanFinish, Finishes}
 use Rattle.vx_tie.specs.Fitted.{SoundLaw}
 use Rattle.vx_frame.specs.Found.{Found, Made}
 use Rattle.vx_calls.specs.Framing.{IsFrameOf, SlotNeeded, is_passed as is_passed_there, is_kept, is_saved as is_saved_there}
 use Rattle.vx_target.specs.Places.{ArePlaces}
-use Rattle.vx_frame.specs.Placing.{splits, OneSplit, all_places, functions_begin, standing}
+use Rattle.vx_frame.specs.Placing.{WaysDiffer, all_places, functions_begin, standing}
 use Rattle.vx_frame.specs.Regions.{all_traces}
 use Rattle.vx_slots.specs.Seen.{no_graph, no_layout, no_map, no_frame, seen}
 use Rattle.vx_target.proofs.Frames.{get_some, get_in}
@@ -54,25 +45,6 @@ beyond [] i d le = refl
 beyond (x ∷ xs) zero d le = absurd (omega arith)
 beyond (x ∷ xs) (suc i) d le = beyond xs i d (omega arith)
 
--- a word of a settled layout has one split
-
-splits_are : (items : List Laid) → count_by (λ (x : ClusteredItem). is_split x.item) (map item_of_laid items) ≡ splits items
-splits_are [] = refl
-splits_are (Plain op k ∷ items) =
-    let a : count_by (λ (x : ClusteredItem). is_split x.item) (item_of_laid (Plain op k) ∷ map item_of_laid items) ≡ 0 + count_by (λ (x : ClusteredItem). is_split x.item) (map item_of_laid items) = count_by-cons (λ (x : ClusteredItem). is_split x.item) (item_of_laid (Plain op k)) (map item_of_laid items) in
-    let b = splits_are items in omega arith
-splits_are (Split test y q ∷ items) =
-    let a : count_by (λ (x : ClusteredItem). is_split x.item) (item_of_laid (Split test y q) ∷ map item_of_laid items) ≡ 1 + count_by (λ (x : ClusteredItem). is_split x.item) (map item_of_laid items) = count_by-cons (λ (x : ClusteredItem). is_split x.item) (item_of_laid (Split test y q)) (map item_of_laid items) in
-    let b = splits_are items in omega arith
-
-pub one_split : (m : Numbers) (l : VWords) → SettledLayout (room_of m) (latency_of_op m) l → OneSplit l.words
-one_split m l settled p r w items e =
-    let xs : List ClusteredItem = map item_of_laid items in
-    let homes : Homes = record { clusters = l.homes.clusters } in
-    let six = six_parts (is_machine m) (stand_well m homes xs) (all_below m.clusters (has_room_at m homes xs)) (nat_le (count_in (needs Copies) xs) m.copy_paths) (nat_le (count_in is_split xs) 1) (nat_le (count_in is_observable_item xs) 1) (settled.fits p items (r, w, e)) in
-    let few : count_by (λ (x : ClusteredItem). is_split x.item) (map item_of_laid items) ≤ 1 = leb-true (count_in is_split xs) 1 six.five in
-    subst (λ n. n ≤ 1) (splits_are items) few
-
 module _ (m : Numbers) (flow : Flow) (ls : List VWords) (ms : List RegMap) (can : AllCanFinish m flow ls ms) where
   abbrev Layout : ℕ → VWords
   Layout f = slice_index_or ls f no_layout
@@ -80,8 +52,8 @@ module _ (m : Numbers) (flow : Flow) (ls : List VWords) (ms : List RegMap) (can 
   pub layout_settled : (f : ℕ) → f < length flow.functions → SettledLayout (room_of m) (latency_of_op m) (Layout f)
   layout_settled f lt = let c = can.each f lt in subst (SettledLayout (room_of m) (latency_of_op m)) (sym (get_or_from_slice_get ls f c.layout no_layout c.layout_is)) c.settled
 
-  pub layouts_split : (f : ℕ) → f < length flow.functions → OneSplit (Layout f).words
-  layouts_split f lt = one_split m (Layout f) (layout_settled f lt)
+  pub layouts_differ : (f : ℕ) → f < length flow.functions → WaysDiffer (Layout f).words
+  layouts_differ f lt p r w items at = (layout_settled f lt).ways p items (r, w, at)
 
   pub no_more : (f : ℕ) → length flow.functions ≤ f → (Layout f).words ≡ []
   no_more f le = let e = can.layouts in ap (λ (l : VWords). l.words) (beyond ls f no_layout (omega arith))
@@ -219,6 +191,7 @@ module _ (W : Whole) (flow : Flow) (sound : SoundFlow flow) (found : Found W flo
     small = (let a = made.memory in let b = made.few_bytes in omega arith);
     memory = made.memory;
     start = made.start;
+    version = made.version;
     texts = made.texts;
     placed = made.placed;
     few = made.few;
@@ -234,6 +207,7 @@ finishes W flow x law sound found made places =
       finished = record {
         target = T;
         machine_is = refl;
+        version = made.version;
         maps_are = λ f lt. (let can = found.can.each f lt in can.map_is ∙ ap Some (sym (get_or_from_slice_get W.maps.now f can.map no_map can.map_is)));
         carries = c;
         sound = law T flow W.layouts.now w sound c (made.ascending w.memory (let a = made.memory in let b = found.globals in omega arith));

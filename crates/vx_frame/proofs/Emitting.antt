@@ -3,11 +3,12 @@ use Rattle.std.proofs.Common.{◌≡◌, ◌<◌, ℕ, zero, suc, ◌+◌, ◌-�
 use Rattle.vx_isa.specs.declared.program.Word.{Word}
 use Rattle.vx_mixed.specs.declared.layout.VirtualWord.{VirtualWord}
 use Rattle.vx_slots.specs.declared.program.FunctionPlaces.{FunctionPlaces}
+use Rattle.vx_slots.specs.declared.program.SplitLanding.{SplitLanding}
 use Rattle.vx_base.specs.declared.outcome.Trap.TheVariants.{Depth as ByDepth}
 use Rattle.vx_isa.specs.declared.operation.Operation.TheVariants.{EndByTrap}
 use Rattle.vx_target.specs.Target.{Target, word_words, entry_words, start_words, one}
 use Rattle.vx_target.specs.Placed.{laid_pieces, landing_pieces, word_landings, function_pieces, functions_pieces, all_pieces, Labelled, Depth, words_of}
-use Rattle.vx_frame.specs.Placing.{starts_from, landings_from, mark_of, marks_from, laid_begin, landings_begin, places_at, all_places, functions_end}
+use Rattle.vx_frame.specs.Placing.{starts_from, word_spots, landings_from, mark_of, marks_from, laid_begin, landings_begin, places_at, all_places, functions_end}
 
 -- pieces
 
@@ -57,35 +58,35 @@ pub emits_marks : (T : Target) (f p : ℕ) (all : List VirtualWord) (first words
 emits_marks T f p all first words starts marks e = sym (append-nil marks) ∙ sym e.marks_are
 
 -- the landings of a layout
-pub record Lands (T : Target) (f : ℕ) (all : List VirtualWord) (first words : List Word) (landings : List ℕ) (p : ℕ) (rest : List VirtualWord) : Type 0 where
+pub record Lands (T : Target) (f : ℕ) (all : List VirtualWord) (first words : List Word) (landings : List (List SplitLanding)) (p : ℕ) (rest : List VirtualWord) : Type 0 where
   pub words_are : first ++ words_of (landing_pieces T f 0 all) ≡ words ++ words_of (landing_pieces T f p rest)
   pub landings_are : landings_from T f (length first) 0 all ≡ landings ++ landings_from T f (length words) p rest
 
 pub lands_first : (T : Target) (f : ℕ) (all : List VirtualWord) (first : List Word) → Lands T f all first first [] 0 all
 lands_first T f all first = record { words_are = refl; landings_are = refl }
 
-pub lands_next : (T : Target) (f p : ℕ) (all rest : List VirtualWord) (word : VirtualWord) (first words more : List Word) (landings : List ℕ) → Lands T f all first words landings p (word ∷ rest) → more ≡ words ++ words_of (word_landings T f p word) → Lands T f all first more (landings ++ length words ∷ []) (p + 1) rest
+pub lands_next : (T : Target) (f p : ℕ) (all rest : List VirtualWord) (word : VirtualWord) (first words more : List Word) (landings : List (List SplitLanding)) → Lands T f all first words landings p (word ∷ rest) → more ≡ words ++ words_of (word_landings T f p word) → Lands T f all first more (landings ++ word_spots T f p (length words) word ∷ []) (p + 1) rest
 lands_next T f p all rest word first words more landings e w =
     let here = words_of (word_landings T f p word) in
     let s : suc p ≡ p + 1 = omega arith in
     let n : length more ≡ length words + length here = ap length w ∙ length-append words here in
     record {
       words_are = e.words_are ∙ ap (λ z. words ++ z) (words_of_append (word_landings T f p word) (landing_pieces T f (suc p) rest)) ∙ sym (append_assoc words here (words_of (landing_pieces T f (suc p) rest))) ∙ ap (λ z. z ++ words_of (landing_pieces T f (suc p) rest)) (sym w) ∙ ap (λ i. more ++ words_of (landing_pieces T f i rest)) s;
-      landings_are = e.landings_are ∙ ap (λ i. landings ++ length words ∷ landings_from T f i (suc p) rest) (sym n) ∙ ap (λ i. landings ++ length words ∷ landings_from T f (length more) i rest) s ∙ sym (append_assoc landings (length words ∷ []) (landings_from T f (length more) (p + 1) rest));
+      landings_are = e.landings_are ∙ ap (λ i. landings ++ word_spots T f p (length words) word ∷ landings_from T f i (suc p) rest) (sym n) ∙ ap (λ i. landings ++ word_spots T f p (length words) word ∷ landings_from T f (length more) i rest) s ∙ sym (append_assoc landings (word_spots T f p (length words) word ∷ []) (landings_from T f (length more) (p + 1) rest));
     }
 
 -- one word more, as the steps of the loop give it
-pub lands_turn : (T : Target) (f p q begin : ℕ) (all left rest : List VirtualWord) (word : VirtualWord) (first words more : List Word) (landings new : List ℕ) → Lands T f all first words landings p left → left ≡ word ∷ rest → more ≡ words ++ words_of (word_landings T f p word) → begin ≡ length words → new ≡ landings ++ begin ∷ [] → q ≡ p + 1 → Lands T f all first more new q rest
-lands_turn T f p q begin all left rest word first words more landings new e l w b x z =
+pub lands_turn : (T : Target) (f p q : ℕ) (spots : List SplitLanding) (all left rest : List VirtualWord) (word : VirtualWord) (first words more : List Word) (landings new : List (List SplitLanding)) → Lands T f all first words landings p left → left ≡ word ∷ rest → more ≡ words ++ words_of (word_landings T f p word) → spots ≡ word_spots T f p (length words) word → new ≡ landings ++ spots ∷ [] → q ≡ p + 1 → Lands T f all first more new q rest
+lands_turn T f p q spots all left rest word first words more landings new e l w b x z =
     let here : Lands T f all first words landings p (word ∷ rest) = subst (λ ws. Lands T f all first words landings p ws) l e in
-    let next : Lands T f all first more (landings ++ length words ∷ []) (p + 1) rest = lands_next T f p all rest word first words more landings here w in
+    let next : Lands T f all first more (landings ++ word_spots T f p (length words) word ∷ []) (p + 1) rest = lands_next T f p all rest word first words more landings here w in
     let by_landings : Lands T f all first more new (p + 1) rest = subst (λ xs. Lands T f all first more xs (p + 1) rest) (sym (x ∙ ap (λ n. landings ++ n ∷ []) b)) next in
     subst (λ i. Lands T f all first more new i rest) (sym z) by_landings
 
-pub lands_words : (T : Target) (f p : ℕ) (all : List VirtualWord) (first words : List Word) (landings : List ℕ) → Lands T f all first words landings p [] → words ≡ first ++ words_of (landing_pieces T f 0 all)
+pub lands_words : (T : Target) (f p : ℕ) (all : List VirtualWord) (first words : List Word) (landings : List (List SplitLanding)) → Lands T f all first words landings p [] → words ≡ first ++ words_of (landing_pieces T f 0 all)
 lands_words T f p all first words landings e = sym (append-nil words) ∙ sym e.words_are
 
-pub lands_landings : (T : Target) (f p : ℕ) (all : List VirtualWord) (first words : List Word) (landings : List ℕ) → Lands T f all first words landings p [] → landings ≡ landings_from T f (length first) 0 all
+pub lands_landings : (T : Target) (f p : ℕ) (all : List VirtualWord) (first words : List Word) (landings : List (List SplitLanding)) → Lands T f all first words landings p [] → landings ≡ landings_from T f (length first) 0 all
 lands_landings T f p all first words landings e = sym (append-nil landings) ∙ sym e.landings_are
 
 -- functions

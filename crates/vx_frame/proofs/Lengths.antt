@@ -190,7 +190,7 @@ word_length T s f p (Ends k) = refl
 landing_length : (T : Target) (s : Spots) (f : ℕ) (items : List Laid) (q : ℕ) → length (landing_words (at_spots T s) f items q) ≡ length (landing_words T f items q)
 landing_length T s f items q = len_both (behind (at_spots T s) f items) (one (Goto (s.starts f (past T f q))) ∷ []) (behind T f items) (one (Goto (T.starts f (past T f q))) ∷ []) (ap length (behind_same T s f items)) refl
 
-landing_of_length : (T : Target) (s : Spots) (f p : ℕ) (items : List Laid) (scratch : List ℕ) (q : ℕ) → length (words_of (landing_of (at_spots T s) f p items scratch q)) ≡ length (words_of (landing_of T f p items scratch q))
+pub landing_of_length : (T : Target) (s : Spots) (f p : ℕ) (items : List Laid) (scratch : List ℕ) (q : ℕ) → length (words_of (landing_of (at_spots T s) f p items scratch q)) ≡ length (words_of (landing_of T f p items scratch q))
 landing_of_length T s f p items [] q = refl
 landing_of_length T s f p items (v ∷ vs) q = len_both (landing_words (at_spots T s) f items q) [] (landing_words T f items q) [] (landing_length T s f items q) refl
 

@@ -3,6 +3,7 @@ pub mod Lengths
 pub mod Standing
 pub mod RegionPlaces
 pub mod PlaceRows
+pub mod SplitRows
 pub mod Assembled
 pub mod SeenSaves
 pub mod Shorter

@@ -1,22 +1,27 @@
 -- The places that were found are those at which the words stand.
 use Rattle.std.proofs.Common.{◌≡◌, ◌⊎◌, inl, inr, ◌<◌, ◌≤◌, ℕ, zero, suc, ◌+◌, Option, Some, None, List, [], ◌∷◌, ◌++◌, length, slice_get, slice_index_or, refl, sym, ap, subst, ◌∙◌, arith, length-append}
+use Rattle.std.specs.Prelude.{if◌then◌else◌}
 use Rattle.vx_flow.specs.declared.graph.Operand.{Operand}
 use Rattle.vx_mixed.specs.declared.layout.Laid.{Laid}
 use Rattle.vx_mixed.specs.declared.layout.Laid.TheVariants.{Plain, Split}
 use Rattle.vx_mixed.specs.declared.layout.VirtualWord.{VirtualWord}
 use Rattle.vx_mixed.specs.declared.layout.VirtualWord.TheVariants.{Planned, Drain, Transfer, Choice, Call as Calls, Return as Returns, Ends}
-use Rattle.vx_mixed.specs.LaidSettled.{laid_reads, laid_writes}
+use Rattle.vx_mixed.specs.LaidSettled.{laid_reads, laid_writes, laid_ways}
+use Rattle.vx_mixed.specs.Settled.{NoTwice}
+use Rattle.vx_flow.specs.Effects.{IsIn}
 use Rattle.vx_slots.specs.declared.program.FunctionPlaces.{FunctionPlaces}
+use Rattle.vx_slots.specs.declared.program.SplitLanding.{SplitLanding}
 use Rattle.vx_target.specs.Target.{Target, one as single, slotted, word_words, call_words, entry_words, start_words}
 use Rattle.vx_target.specs.Placed.{Labelled, Depth, PlacedAt, laid_pieces, landing_of, item_landings, word_landings, landing_pieces, function_pieces, functions_pieces, all_pieces, words_of, IsPlaced}
-use Rattle.std.proofs.lemmas.Bool.{cases_lt}
-use Rattle.vx_frame.specs.Placing.{Spots, at_spots, splits, OneSplit, starts_from, landings_from, mark_of, marks_from, laid_begin, landings_begin, places_at, all_places, spots_of, functions_begin, functions_end, standing}
-use Rattle.vx_slots.specs.Seen.{no_places}
+use Rattle.std.proofs.lemmas.Bool.{cases_lt, eq-eqb, ne_eqb}
+use Rattle.vx_frame.specs.Placing.{Spots, at_spots, WaysDiffer, starts_from, word_spots, landings_from, mark_of, marks_from, laid_begin, landings_begin, places_at, all_places, spots_of, functions_begin, functions_end, standing}
+use Rattle.vx_slots.specs.Seen.{landed, no_places}
+use Rattle.vx_carry.specs.Landings.{item_spots}
 use Rattle.vx_base.specs.declared.outcome.Trap.TheVariants.{Depth as ByDepth}
 use Rattle.vx_isa.specs.declared.operation.Operation.TheVariants.{EndByTrap}
 use Rattle.vx_isa.specs.declared.program.Word.{Word}
 use Rattle.vx_frame.proofs.Emitting.{words_of_append}
-use Rattle.vx_frame.proofs.Lengths.{before_same, call_length, entry_length, start_length, word_length, word_landings_length}
+use Rattle.vx_frame.proofs.Lengths.{before_same, landing_of_length, call_length, entry_length, start_length, word_length, word_landings_length}
 
 placed_append : (T : Target) (q : ℕ) (xs ys : List Labelled) → PlacedAt T q xs → PlacedAt T (q + length (words_of xs)) ys → PlacedAt T q (xs ++ ys)
 placed_append T q [] ys a b = let z : q + 0 ≡ q = omega arith in subst (λ n. PlacedAt T n ys) z b
@@ -35,42 +40,50 @@ laid_placed T s f p q (word ∷ words) h =
 
 -- landings
 
-no_landings : (T : Target) (f p : ℕ) (items rest : List Laid) → splits rest ≡ 0 → item_landings T f p items rest ≡ []
-no_landings T f p items [] h = refl
-no_landings T f p items (Plain op cluster ∷ rest) h = no_landings T f p items rest h
-no_landings T f p items (Split test y to ∷ rest) h = absurd (omega arith)
+landed_here : (to q : ℕ) (xs : List SplitLanding) → landed (record { to = to; at = q } ∷ xs) to ≡ q
+landed_here to q xs = ap (λ b. if b then q else landed xs to) (eq-eqb to to refl)
+
+landed_past : (to q other : ℕ) (xs : List SplitLanding) → (to ≡ other → ⊥) → landed (record { to = to; at = q } ∷ xs) other ≡ landed xs other
+landed_past to q other xs differ = ap (λ b. if b then q else landed xs other) (ne_eqb to other differ)
 
 landing_of_placed : (T : Target) (f p q : ℕ) (items : List Laid) (scratch : List ℕ) (to : ℕ) → T.landing f p to ≡ q → PlacedAt T q (landing_of T f p items scratch to)
 landing_of_placed T f p q items [] to h = tt
 landing_of_placed T f p q items (v ∷ vs) to h = (h, tt)
 
-item_landings_placed : (T : Target) (f p q : ℕ) (items rest : List Laid) → ((to : ℕ) → T.landing f p to ≡ q) → splits rest ≤ 1 → PlacedAt T q (item_landings T f p items rest)
-item_landings_placed T f p q items [] h one = tt
-item_landings_placed T f p q items (Plain op cluster ∷ rest) h one = item_landings_placed T f p q items rest h one
-item_landings_placed T f p q items (Split test y to ∷ rest) h one =
-    let none : splits rest ≡ 0 = omega arith in
-    let here = landing_of T f p items (slotted T f (laid_writes items)) to in
-    placed_append T q here (item_landings T f p items rest) (landing_of_placed T f p q items (slotted T f (laid_writes items)) to (h to)) (subst (λ xs. PlacedAt T (q + length (words_of here)) xs) (sym (no_landings T f p items rest none)) tt)
+-- each split that is left has its landing where it was noted
+item_landings_placed : (T : Target) (s : Spots) (f p q : ℕ) (items rest : List Laid) → ((to : ℕ) → IsIn to (laid_ways rest) → s.landing f p to ≡ landed (item_spots T f p q items rest) to) → NoTwice (laid_ways rest) → PlacedAt (at_spots T s) q (item_landings (at_spots T s) f p items rest)
+item_landings_placed T s f p q items [] h differ = tt
+item_landings_placed T s f p q items (Plain op cluster ∷ rest) h differ = item_landings_placed T s f p q items rest h differ
+item_landings_placed T s f p q items (Split test y to ∷ rest) h differ =
+    let U = at_spots T s in
+    let scratch = slotted T f (laid_writes items) in
+    let here = landing_of U f p items scratch to in
+    let n = q + length (words_of (landing_of T f p items scratch to)) in
+    let more : List SplitLanding = item_spots T f p n items rest in
+    let l : n ≡ q + length (words_of here) = ap (λ k. q + k) (sym (landing_of_length T s f p items scratch to)) in
+    let first : s.landing f p to ≡ q = h to (inl refl) ∙ landed_here to q more in
+    let next : PlacedAt U n (item_landings U f p items rest) = item_landings_placed T s f p n items rest (λ other i. h other (inr i) ∙ landed_past to q other more (λ e. differ.0 (subst (λ k. IsIn k (laid_ways rest)) (sym e) i))) differ.1 in
+    placed_append U q here (item_landings U f p items rest) (landing_of_placed U f p q items scratch to first) (subst (λ k. PlacedAt U k (item_landings U f p items rest)) l next)
 
-word_landings_placed : (T : Target) (f p q : ℕ) (word : VirtualWord) → ((to : ℕ) → T.landing f p to ≡ q) → ((r w : ℕ) (items : List Laid) → word ≡ Planned r w items → splits items ≤ 1) → PlacedAt T q (word_landings T f p word)
-word_landings_placed T f p q (Planned r w items) h one = item_landings_placed T f p q items items h (one r w items refl)
-word_landings_placed T f p q (Drain n) h one = tt
-word_landings_placed T f p q (Transfer to) h one = tt
-word_landings_placed T f p q (Choice test to) h one = tt
-word_landings_placed T f p q (Calls g arguments result) h one = tt
-word_landings_placed T f p q (Returns x) h one = tt
-word_landings_placed T f p q (Ends k) h one = tt
+word_landings_placed : (T : Target) (s : Spots) (f p q : ℕ) (word : VirtualWord) → ((to : ℕ) → s.landing f p to ≡ landed (word_spots T f p q word) to) → ((r w : ℕ) (items : List Laid) → word ≡ Planned r w items → NoTwice (laid_ways items)) → PlacedAt (at_spots T s) q (word_landings (at_spots T s) f p word)
+word_landings_placed T s f p q (Planned r w items) h differ = item_landings_placed T s f p q items items (λ to i. h to) (differ r w items refl)
+word_landings_placed T s f p q (Drain n) h differ = tt
+word_landings_placed T s f p q (Transfer to) h differ = tt
+word_landings_placed T s f p q (Choice test to) h differ = tt
+word_landings_placed T s f p q (Calls g arguments result) h differ = tt
+word_landings_placed T s f p q (Returns x) h differ = tt
+word_landings_placed T s f p q (Ends k) h differ = tt
 
-landings_placed : (T : Target) (s : Spots) (f p q : ℕ) (words : List VirtualWord) → ((i to : ℕ) → s.landing f (p + i) to ≡ slice_index_or (landings_from T f q p words) i 0) → OneSplit words → PlacedAt (at_spots T s) q (landing_pieces (at_spots T s) f p words)
-landings_placed T s f p q [] h one = tt
-landings_placed T s f p q (word ∷ words) h one =
+landings_placed : (T : Target) (s : Spots) (f p q : ℕ) (words : List VirtualWord) → ((i to : ℕ) → s.landing f (p + i) to ≡ landed (slice_index_or (landings_from T f q p words) i []) to) → WaysDiffer words → PlacedAt (at_spots T s) q (landing_pieces (at_spots T s) f p words)
+landings_placed T s f p q [] h differ = tt
+landings_placed T s f p q (word ∷ words) h differ =
     let U = at_spots T s in
     let z : p ≡ p + 0 = omega arith in
     let here = words_of (word_landings T f p word) in
     let l : q + length here ≡ q + length (words_of (word_landings U f p word)) = ap (λ k. q + k) (sym (word_landings_length T s f p word)) in
-    let next : PlacedAt U (q + length here) (landing_pieces U f (suc p) words) = landings_placed T s f (suc p) (q + length here) words (λ i to. let y : suc p + i ≡ p + suc i = omega arith in ap (λ k. s.landing f k to) y ∙ h (suc i) to) (λ i r w items e. one (suc i) r w items e) in
+    let next : PlacedAt U (q + length here) (landing_pieces U f (suc p) words) = landings_placed T s f (suc p) (q + length here) words (λ i to. let y : suc p + i ≡ p + suc i = omega arith in ap (λ k. s.landing f k to) y ∙ h (suc i) to) (λ i r w items e. differ (suc i) r w items e) in
     placed_append U q (word_landings U f p word) (landing_pieces U f (suc p) words)
-    (word_landings_placed U f p q word (λ to. ap (λ k. s.landing f k to) z ∙ h 0 to) (λ r w items e. one 0 r w items (ap Some e)))
+    (word_landings_placed T s f p q word (λ to. ap (λ k. s.landing f k to) z ∙ h 0 to) (λ r w items e. differ 0 r w items (ap Some e)))
     (subst (λ k. PlacedAt U k (landing_pieces U f (suc p) words)) l next)
 
 -- functions
@@ -128,41 +141,41 @@ functions_length T s f (suc n) =
 record IsSpot (s : Spots) (f : ℕ) (x : FunctionPlaces) : Type 0 where
   pub entry : s.entry f ≡ x.entry
   pub starts : (p : ℕ) → s.starts f p ≡ slice_index_or x.starts p 0
-  pub landing : (p to : ℕ) → s.landing f p to ≡ slice_index_or x.landings p 0
+  pub landing : (p to : ℕ) → s.landing f p to ≡ landed (slice_index_or x.landings p []) to
   pub back : (p : ℕ) → s.back f p ≡ slice_index_or x.marks p 0
 
-function_placed : (T : Target) (s : Spots) (f q : ℕ) → IsSpot s f (places_at T f q) → OneSplit (T.layout f).words → PlacedAt (at_spots T s) q (function_pieces (at_spots T s) f)
-function_placed T s f q h one =
+function_placed : (T : Target) (s : Spots) (f q : ℕ) → IsSpot s f (places_at T f q) → WaysDiffer (T.layout f).words → PlacedAt (at_spots T s) q (function_pieces (at_spots T s) f)
+function_placed T s f q h differ =
     let U = at_spots T s in
     let ws = (T.layout f).words in
     let zero_first : (i : ℕ) → 0 + i ≡ i = λ i. omega arith in
     let laid : PlacedAt U (laid_begin T f q) (laid_pieces U f 0 ws) = laid_placed T s f 0 (laid_begin T f q) ws (λ i. ap (s.starts f) (zero_first i) ∙ h.starts i) in
-    let landed : PlacedAt U (landings_begin T f q) (landing_pieces U f 0 ws) = landings_placed T s f 0 (landings_begin T f q) ws (λ i to. ap (λ k. s.landing f k to) (zero_first i) ∙ h.landing i to) one in
+    let arrived : PlacedAt U (landings_begin T f q) (landing_pieces U f 0 ws) = landings_placed T s f 0 (landings_begin T f q) ws (λ i to. ap (λ k. s.landing f k to) (zero_first i) ∙ h.landing i to) differ in
     let a : laid_begin T f q + length (words_of (laid_pieces T f 0 ws)) ≡ laid_begin T f q + length (words_of (laid_pieces U f 0 ws)) = ap (λ k. laid_begin T f q + k) (sym (laid_length T s f 0 ws)) in
-    let both : PlacedAt U (laid_begin T f q) (laid_pieces U f 0 ws ++ landing_pieces U f 0 ws) = placed_append U (laid_begin T f q) (laid_pieces U f 0 ws) (landing_pieces U f 0 ws) laid (subst (λ k. PlacedAt U k (landing_pieces U f 0 ws)) a landed) in
+    let both : PlacedAt U (laid_begin T f q) (laid_pieces U f 0 ws ++ landing_pieces U f 0 ws) = placed_append U (laid_begin T f q) (laid_pieces U f 0 ws) (landing_pieces U f 0 ws) laid (subst (λ k. PlacedAt U k (landing_pieces U f 0 ws)) a arrived) in
     let e : laid_begin T f q ≡ q + length (entry_words U f) = ap (λ k. q + k) (sym (entry_length T s f)) in
     (h.entry, subst (λ k. PlacedAt U k (laid_pieces U f 0 ws ++ landing_pieces U f 0 ws)) e both)
 
-functions_placed : (T : Target) (s : Spots) (q f n : ℕ) → ((i : ℕ) → i < n → IsSpot s (f + i) (slice_index_or (all_places T q f n) i no_places)) → ((i : ℕ) → i < n → OneSplit (T.layout (f + i)).words) → PlacedAt (at_spots T s) q (functions_pieces (at_spots T s) f n)
-functions_placed T s q f zero h one = tt
-functions_placed T s q f (suc n) h one =
+functions_placed : (T : Target) (s : Spots) (q f n : ℕ) → ((i : ℕ) → i < n → IsSpot s (f + i) (slice_index_or (all_places T q f n) i no_places)) → ((i : ℕ) → i < n → WaysDiffer (T.layout (f + i)).words) → PlacedAt (at_spots T s) q (functions_pieces (at_spots T s) f n)
+functions_placed T s q f zero h differ = tt
+functions_placed T s q f (suc n) h differ =
     let U = at_spots T s in
     let z : f + 0 ≡ f = omega arith in
     let first : IsSpot s f (places_at T f q) = subst (λ k. IsSpot s k (places_at T f q)) z (h 0 (omega arith)) in
-    let first_one : OneSplit (T.layout f).words = subst (λ k. OneSplit (T.layout k).words) z (one 0 (omega arith)) in
+    let first_differ : WaysDiffer (T.layout f).words = subst (λ k. WaysDiffer (T.layout k).words) z (differ 0 (omega arith)) in
     let l : q + length (words_of (function_pieces T f)) ≡ q + length (words_of (function_pieces U f)) = ap (λ k. q + k) (sym (function_length T s f)) in
-    let rest : PlacedAt U (q + length (words_of (function_pieces T f))) (functions_pieces U (suc f) n) = functions_placed T s (q + length (words_of (function_pieces T f))) (suc f) n (λ i lt. let y : f + suc i ≡ suc f + i = omega arith in subst (λ k. IsSpot s k (slice_index_or (all_places T (q + length (words_of (function_pieces T f))) (suc f) n) i no_places)) y (h (suc i) (omega arith))) (λ i lt. let y : f + suc i ≡ suc f + i = omega arith in subst (λ k. OneSplit (T.layout k).words) y (one (suc i) (omega arith))) in
-    placed_append U q (function_pieces U f) (functions_pieces U (suc f) n) (function_placed T s f q first first_one) (subst (λ k. PlacedAt U k (functions_pieces U (suc f) n)) l rest)
+    let rest : PlacedAt U (q + length (words_of (function_pieces T f))) (functions_pieces U (suc f) n) = functions_placed T s (q + length (words_of (function_pieces T f))) (suc f) n (λ i lt. let y : f + suc i ≡ suc f + i = omega arith in subst (λ k. IsSpot s k (slice_index_or (all_places T (q + length (words_of (function_pieces T f))) (suc f) n) i no_places)) y (h (suc i) (omega arith))) (λ i lt. let y : f + suc i ≡ suc f + i = omega arith in subst (λ k. WaysDiffer (T.layout k).words) y (differ (suc i) (omega arith))) in
+    placed_append U q (function_pieces U f) (functions_pieces U (suc f) n) (function_placed T s f q first first_differ) (subst (λ k. PlacedAt U k (functions_pieces U (suc f) n)) l rest)
 
 -- a program
 
-pub program_placed : (T : Target) (main n : ℕ) → ((f : ℕ) → f < n → OneSplit (T.layout f).words) → PlacedAt (standing T main n) 0 (all_pieces (standing T main n) main n)
-program_placed T main n one =
+pub program_placed : (T : Target) (main n : ℕ) → ((f : ℕ) → f < n → WaysDiffer (T.layout f).words) → PlacedAt (standing T main n) 0 (all_pieces (standing T main n) main n)
+program_placed T main n differ =
     let q = functions_begin T main in
     let s = spots_of (all_places T q 0 n) (functions_end T main n) in
     let U = at_spots T s in
     let zero_first : (i : ℕ) → i ≡ 0 + i = λ i. omega arith in
-    let functions : PlacedAt U q (functions_pieces U 0 n) = functions_placed T s q 0 n (λ i lt. subst (λ k. IsSpot s k (slice_index_or (all_places T q 0 n) i no_places)) (zero_first i) (record { entry = refl; starts = λ p. refl; landing = λ p to. refl; back = λ p. refl })) (λ i lt. subst (λ k. OneSplit (T.layout k).words) (zero_first i) (one i lt)) in
+    let functions : PlacedAt U q (functions_pieces U 0 n) = functions_placed T s q 0 n (λ i lt. subst (λ k. IsSpot s k (slice_index_or (all_places T q 0 n) i no_places)) (zero_first i) (record { entry = refl; starts = λ p. refl; landing = λ p to. refl; back = λ p. refl })) (λ i lt. subst (λ k. WaysDiffer (T.layout k).words) (zero_first i) (differ i lt)) in
     let trap : functions_end T main n ≡ q + length (words_of (functions_pieces U 0 n)) = ap (λ k. q + k) (sym (functions_length T s 0 n)) in
     let begin : q ≡ 0 + length (start_words U main) = (let a = start_length T s main in omega arith) in
     (refl, subst (λ k. PlacedAt U k (functions_pieces U 0 n ++ record { label = Depth; words = one_word } ∷ [])) begin (placed_append U q (functions_pieces U 0 n) (record { label = Depth; words = one_word } ∷ []) functions (trap, tt)))
@@ -205,17 +218,17 @@ one_back T main n f p g arguments result lt h =
     ∙ ap (λ j. slice_index_or (slice_index_or (all_places T q 0 n) f no_places).starts p 0 + length (call_words T f j g arguments)) first
     ∙ ap (λ k. slice_index_or (slice_index_or (all_places T q 0 n) f no_places).starts p 0 + k) (sym (call_length T s f p g arguments))
 
-pub program_stands : (T : Target) (main n : ℕ) (words : List Word) → ((f : ℕ) → f < n → OneSplit (T.layout f).words) → ((f : ℕ) → n ≤ f → (T.layout f).words ≡ []) → words ≡ words_of (all_pieces (standing T main n) main n) → IsPlaced (standing T main n) main n words
-program_stands T main n words one none is = record { is = is; places = program_placed T main n one; backs = λ f p g arguments result h. by f p g arguments result h (cases_lt f n) }
+pub program_stands : (T : Target) (main n : ℕ) (words : List Word) → ((f : ℕ) → f < n → WaysDiffer (T.layout f).words) → ((f : ℕ) → n ≤ f → (T.layout f).words ≡ []) → words ≡ words_of (all_pieces (standing T main n) main n) → IsPlaced (standing T main n) main n words
+program_stands T main n words differ none is = record { is = is; places = program_placed T main n differ; backs = λ f p g arguments result h. by f p g arguments result h (cases_lt f n) }
   where
     by : (f p g : ℕ) (arguments : List Operand) (result : Option ℕ) → slice_get (T.layout f).words p ≡ Some (Calls g arguments result) → (f < n) ⊎ (n ≤ f) → (standing T main n).back f p ≡ (standing T main n).starts f p + length (call_words (standing T main n) f p g arguments)
     by f p g arguments result h (inl lt) = one_back T main n f p g arguments result lt h
     by f p g arguments result h (inr ge) = absurd (let e : slice_get [] p ≡ Some (Calls g arguments result) = subst (λ xs. slice_get xs p ≡ Some (Calls g arguments result)) (none f ge) h in cc)
 
 -- a second pass over the places that the first one found
-pub second_pass : (T U : Target) (main n trap : ℕ) (places : List FunctionPlaces) (words : List Word) → ((f : ℕ) → f < n → OneSplit (T.layout f).words) → ((f : ℕ) → n ≤ f → (T.layout f).words ≡ []) → places ≡ all_places T (functions_begin T main) 0 n → trap ≡ functions_end T main n → U ≡ at_spots T (spots_of places trap) → words ≡ words_of (all_pieces U main n) → IsPlaced (standing T main n) main n words
-second_pass T U main n trap places words one none a b u w =
-    program_stands T main n words one none (w ∙ ap (λ V. words_of (all_pieces V main n)) u ∙ ap (λ xs. words_of (all_pieces (at_spots T (spots_of xs trap)) main n)) a ∙ ap (λ k. words_of (all_pieces (at_spots T (spots_of (all_places T (functions_begin T main) 0 n) k)) main n)) b)
+pub second_pass : (T U : Target) (main n trap : ℕ) (places : List FunctionPlaces) (words : List Word) → ((f : ℕ) → f < n → WaysDiffer (T.layout f).words) → ((f : ℕ) → n ≤ f → (T.layout f).words ≡ []) → places ≡ all_places T (functions_begin T main) 0 n → trap ≡ functions_end T main n → U ≡ at_spots T (spots_of places trap) → words ≡ words_of (all_pieces U main n) → IsPlaced (standing T main n) main n words
+second_pass T U main n trap places words differ none a b u w =
+    program_stands T main n words differ none (w ∙ ap (λ V. words_of (all_pieces V main n)) u ∙ ap (λ xs. words_of (all_pieces (at_spots T (spots_of xs trap)) main n)) a ∙ ap (λ k. words_of (all_pieces (at_spots T (spots_of (all_places T (functions_begin T main) 0 n) k)) main n)) b)
 
 -- a second pass finds the same places
 
@@ -225,11 +238,31 @@ starts_same T s f q p (word ∷ words) =
     ap (λ k. q ∷ starts_from (at_spots T s) f (q + k) (suc p) words) (word_length T s f p word)
     ∙ ap (λ xs. q ∷ xs) (starts_same T s f (q + length (word_words T f p word)) (suc p) words)
 
+items_found : (T : Target) (s : Spots) (f p q : ℕ) (items rest : List Laid) → item_spots (at_spots T s) f p q items rest ≡ item_spots T f p q items rest
+items_found T s f p q items [] = refl
+items_found T s f p q items (Plain op cluster ∷ rest) = items_found T s f p q items rest
+items_found T s f p q items (Split test y to ∷ rest) =
+    let scratch = slotted T f (laid_writes items) in
+    let here : SplitLanding = record { to = to; at = q } in
+    ap (λ k. here ∷ item_spots (at_spots T s) f p (q + k) items rest) (landing_of_length T s f p items scratch to)
+    ∙ ap (λ xs. here ∷ xs) (items_found T s f p (q + length (words_of (landing_of T f p items scratch to))) items rest)
+
+found_there : (T : Target) (s : Spots) (f p q : ℕ) (word : VirtualWord) → word_spots (at_spots T s) f p q word ≡ word_spots T f p q word
+found_there T s f p q (Planned r w items) = items_found T s f p q items items
+found_there T s f p q (Drain n) = refl
+found_there T s f p q (Transfer to) = refl
+found_there T s f p q (Choice test to) = refl
+found_there T s f p q (Calls g arguments result) = refl
+found_there T s f p q (Returns x) = refl
+found_there T s f p q (Ends k) = refl
+
 found_landings : (T : Target) (s : Spots) (f q p : ℕ) (words : List VirtualWord) → landings_from (at_spots T s) f q p words ≡ landings_from T f q p words
 found_landings T s f q p [] = refl
 found_landings T s f q p (word ∷ words) =
-    ap (λ k. q ∷ landings_from (at_spots T s) f (q + k) (suc p) words) (word_landings_length T s f p word)
-    ∙ ap (λ xs. q ∷ xs) (found_landings T s f (q + length (words_of (word_landings T f p word))) (suc p) words)
+    let U = at_spots T s in
+    ap (λ xs. xs ∷ landings_from U f (q + length (words_of (word_landings U f p word))) (suc p) words) (found_there T s f p q word)
+    ∙ ap (λ k. word_spots T f p q word ∷ landings_from U f (q + k) (suc p) words) (word_landings_length T s f p word)
+    ∙ ap (λ xs. word_spots T f p q word ∷ xs) (found_landings T s f (q + length (words_of (word_landings T f p word))) (suc p) words)
 
 mark_same : (T : Target) (s : Spots) (f q p : ℕ) (word : VirtualWord) → mark_of (at_spots T s) f q p word ≡ mark_of T f q p word
 mark_same T s f q p (Planned r w items) = ap (λ xs. q + length xs) (before_same T s f (laid_reads items))

@@ -29,8 +29,10 @@ pub record Found (W : Whole) (flow : Flow) : Type 0 where
   pub address : (a : ℕ) → a < length flow.globals → slice_index_or addresses a 0 ≡ words_before flow.globals a
   pub globals : W.sizes.globals ≡ words_before flow.globals (length flow.globals)
 
--- the program has that memory, the globals stand in it at the start, and its words stand where they were placed
+-- the program has the version of the machine's branches and that memory, the globals stand in it at the start, and its words stand
+-- where they were placed
 pub record Made (W : Whole) (flow : Flow) (w : WordProgram) : Type 0 where
+  pub version : w.version ≡ W.machine.now.branches
   pub memory : w.memory ≡ 4 * (W.sizes.globals + W.sizes.frame * deepest)
   pub few_bytes : w.memory ≤ 132644864
   pub start : (a i : ℕ) (x : Global) → slice_get flow.globals a ≡ Some x → i < x.words → memory_at_start w.start (4 * (words_before flow.globals a + i)) ≡ first_or_zero x.first i

@@ -1,13 +1,15 @@
 -- The places of the words of a function, where its first word stands at a place.
-use Rattle.std.specs.Prelude.{◌≡◌, ◌≤◌, ℕ, zero, suc, ◌+◌, Some, List, [], ◌∷◌, length, slice_get, slice_index_or}
+use Rattle.std.specs.Prelude.{◌≡◌, ℕ, zero, suc, ◌+◌, Some, List, [], ◌∷◌, length, slice_get, slice_index_or}
 use Rattle.vx_mixed.specs.declared.layout.Laid.{Laid}
-use Rattle.vx_mixed.specs.declared.layout.Laid.TheVariants.{Plain, Split}
 use Rattle.vx_mixed.specs.declared.layout.VirtualWord.{VirtualWord}
 use Rattle.vx_mixed.specs.declared.layout.VirtualWord.TheVariants.{Planned, Drain, Transfer, Choice, Call, Return, Ends}
-use Rattle.vx_mixed.specs.LaidSettled.{laid_reads}
+use Rattle.vx_mixed.specs.LaidSettled.{laid_reads, laid_ways}
+use Rattle.vx_mixed.specs.Settled.{NoTwice}
 use Rattle.vx_slots.specs.declared.program.FunctionPlaces.{FunctionPlaces}
+use Rattle.vx_slots.specs.declared.program.SplitLanding.{SplitLanding}
 use Rattle.vx_target.specs.Target.{Target, before, call_words, word_words, entry_words, start_words}
-use Rattle.vx_slots.specs.Seen.{no_places}
+use Rattle.vx_slots.specs.Seen.{landed, no_places}
+use Rattle.vx_carry.specs.Landings.{item_spots}
 use Rattle.vx_target.specs.Placed.{laid_pieces, word_landings, function_pieces, functions_pieces, words_of}
 
 -- the words of a layout from place p on, of which the first one's words begin at q
@@ -15,9 +17,19 @@ abbrev pub starts_from : Target → (function q p : ℕ) → List VirtualWord �
 starts_from T f q p [] = q ∷ []
 starts_from T f q p (word ∷ words) = q ∷ starts_from T f (q + length (word_words T f p word)) (suc p) words
 
-abbrev pub landings_from : Target → (function q p : ℕ) → List VirtualWord → List ℕ
+-- the landings of the splits of a word, of which the first one stands at q
+abbrev pub word_spots : Target → (function place q : ℕ) → VirtualWord → List SplitLanding
+word_spots T f p q (Planned r w items) = item_spots T f p q items items
+word_spots T f p q (Drain n) = []
+word_spots T f p q (Transfer to) = []
+word_spots T f p q (Choice test to) = []
+word_spots T f p q (Call g arguments result) = []
+word_spots T f p q (Return x) = []
+word_spots T f p q (Ends k) = []
+
+abbrev pub landings_from : Target → (function q p : ℕ) → List VirtualWord → List (List SplitLanding)
 landings_from T f q p [] = []
-landings_from T f q p (word ∷ words) = q ∷ landings_from T f (q + length (words_of (word_landings T f p word))) (suc p) words
+landings_from T f q p (word ∷ words) = word_spots T f p q word ∷ landings_from T f (q + length (words_of (word_landings T f p word))) (suc p) words
 
 -- where the operations of a planned word stand, and where a call returns
 abbrev pub mark_of : Target → (function q p : ℕ) → VirtualWord → ℕ
@@ -65,21 +77,16 @@ pub record Spots : Type 0 where
 abbrev pub at_spots : Target → Spots → Target
 at_spots T s = record T { entry = s.entry; starts = s.starts; landing = s.landing; back = s.back; depth_trap = s.depth_trap }
 
--- a word has one way out besides the next word
-abbrev pub splits : List Laid → ℕ
-splits [] = 0
-splits (Plain op cluster ∷ items) = splits items
-splits (Split test y q ∷ items) = suc (splits items)
-
-abbrev pub OneSplit : List VirtualWord → Type 0
-OneSplit words = (p r w : ℕ) (items : List Laid) → slice_get words p ≡ Some (Planned r w items) → splits items ≤ 1
+-- the splits of each planned word leave to places that differ, so that each has a landing of its own
+abbrev pub WaysDiffer : List VirtualWord → Type 0
+WaysDiffer words = (p r w : ℕ) (items : List Laid) → slice_get words p ≡ Some (Planned r w items) → NoTwice (laid_ways items)
 
 -- those of a list, and the place of the trap; what is not in the list is 0
 abbrev pub spots_of : List FunctionPlaces → (trap : ℕ) → Spots
 spots_of xs trap = record {
   entry = λ f. (slice_index_or xs f no_places).entry;
   starts = λ f p. slice_index_or (slice_index_or xs f no_places).starts p 0;
-  landing = λ f p to. slice_index_or (slice_index_or xs f no_places).landings p 0;
+  landing = λ f p to. landed (slice_index_or (slice_index_or xs f no_places).landings p []) to;
   back = λ f p. slice_index_or (slice_index_or xs f no_places).marks p 0;
   depth_trap = trap;
 }

@@ -6,7 +6,7 @@ ghost use Rattle.vx_mixed.specs.declared.layout.VirtualWord.TheVariants.{Call};
 ghost use Rattle.vx_mixed.specs.LaidSettled.{laid_reads};
 ghost use Rattle.vx_target.specs.Target.{before, pause, plan_words, start_words, turns, turns_word, waits, word_words};
 ghost use Rattle.vx_target.specs.Placed.{laid_pieces, word_landings, landing_pieces, function_pieces, functions_pieces, all_pieces, words_of, IsPlaced};
-ghost use Rattle.vx_frame.specs.Placing.{starts_from, landings_from, mark_of, marks_from, places_at, all_places, functions_begin, functions_end, at_spots, spots_of, standing, OneSplit};
+ghost use Rattle.vx_frame.specs.Placing.{starts_from, word_spots, landings_from, mark_of, marks_from, places_at, all_places, functions_begin, functions_end, at_spots, spots_of, standing, WaysDiffer};
 ghost use Rattle.vx_slots.specs.declared.program.FunctionPlaces.{FunctionPlaces as ThePlaces};
 ghost use Rattle.vx_slots.specs.Seen.{seen};
 
@@ -21,7 +21,7 @@ use vx_flow::graph::{Operand, Value};
 use vx_isa::operation::Operation;
 use vx_isa::program::Word;
 use vx_mixed::layout::{Laid, VirtualWord};
-use vx_slots::program::{FunctionPlaces, Sizes, Whole, words_of};
+use vx_slots::program::{FunctionPlaces, Sizes, SplitLanding, Whole, words_of};
 use vx_slots::transfers::{push_idle, push_one, push_pause};
 use vx_slots::ways::past;
 
@@ -204,7 +204,7 @@ fn note_laid(
     }
 }
 
-/// The landings of a word of a layout.
+/// The landings of a word of a layout; where they stand is noted in a list that holds none yet.
 fn push_word_landings(
     alloc: Global,
     whole: &Whole,
@@ -212,19 +212,22 @@ fn push_word_landings(
     place: u32,
     word: &VirtualWord,
     words: &mut Listed<Word>,
+    spots: &mut Listed<SplitLanding>,
 ) -> Result<(), NoMemory>
-    ensures { IfOk result (λ _. words.new ≡ words.old ++ words_of (word_landings (seen whole.now) function place word.now)) }
+    requires { spots.old ≡ [] }
+    ensures words { IfOk result (λ _. words.new ≡ words.old ++ words_of (word_landings (seen whole.now) function place word.now)) }
+    ensures spots { IfOk result (λ _. spots.new ≡ word_spots (seen whole.now) function place (length words.old) word.now) }
 {
     match word {
         VirtualWord::Planned { items, .. } => {
             let plan = plan_of(alloc, whole, function, place, items.as_slice())?;
-            push_item_landings(alloc, whole, &plan, items.as_slice(), words)
+            push_item_landings(alloc, whole, &plan, items.as_slice(), words, spots)
         }
         _ => Ok(()),
     }
 }
 
-/// The landings of a layout, one after the other; where those of each word begin is noted in a list that holds none yet.
+/// The landings of a layout, one after the other; where those of each word stand is noted in a list that holds none yet.
 #[tactic(auto, using(crate::proofs::Emitting::lands_first, crate::proofs::Emitting::lands_words, crate::proofs::Emitting::lands_landings))]
 fn push_landings(
     alloc: Global,
@@ -232,7 +235,7 @@ fn push_landings(
     function: u32,
     laid: &[VirtualWord],
     words: &mut Listed<Word>,
-    landings: &mut Listed<u32>,
+    landings: &mut Listed<Listed<SplitLanding>>,
 ) -> Result<(), NoMemory>
     requires { landings.old ≡ [] }
     ensures words { IfOk result (λ _. words.new ≡ words.old ++ words_of (landing_pieces (seen whole.now) function 0 laid.now)) }
@@ -244,9 +247,9 @@ fn push_landings(
         match rest.split_first() {
             None => return Ok(()),
             Some((word, others)) => {
-                let begin = words.len() as u32;
-                push_word_landings(alloc, whole, function, place, word, words)?;
-                landings.push(begin)?;
+                let mut spots = Listed::new(alloc);
+                push_word_landings(alloc, whole, function, place, word, words, &mut spots)?;
+                landings.push(spots)?;
                 place = sum(place, 1)?;
                 rest = others;
             }
@@ -261,7 +264,7 @@ fn note_function(
     function: u32,
     words: &mut Listed<Word>,
     starts: &mut Listed<u32>,
-    landings: &mut Listed<u32>,
+    landings: &mut Listed<Listed<SplitLanding>>,
     marks: &mut Listed<u32>,
 ) -> Result<(), NoMemory>
     requires no_starts { starts.old ≡ [] }
@@ -382,8 +385,8 @@ pub(crate) fn with_places<'a, 'p>(
     }
 }
 
-/// The words of a program, of which all but the places are found, where no word has more than one split; and their places, which
-/// the first pass found too.
+/// The words of a program, of which all but the places are found, where the splits of each word leave to places that differ; and
+/// their places, which the first pass found too.
 #[tactic(auto, using(crate::proofs::Standing::second_pass))]
 pub(crate) fn pieces_that_stand(
     alloc: Global,
@@ -391,7 +394,7 @@ pub(crate) fn pieces_that_stand(
     main: u32,
     functions: u32,
 ) -> Result<Pieces, NoMemory>
-    requires one_split { (f : ℕ) → f < functions → OneSplit ((seen whole.now).layout f).words }
+    requires differ { (f : ℕ) → f < functions → WaysDiffer ((seen whole.now).layout f).words }
     requires no_more { (f : ℕ) → functions ≤ f → ((seen whole.now).layout f).words ≡ [] }
     ensures placed { IfOk result (λ pieces. IsPlaced (standing (seen whole.now) main functions) main functions pieces.words) }
     ensures places { IfOk result (λ pieces. pieces.places ≡ all_places (seen whole.now) (functions_begin (seen whole.now) main) 0 functions) }

@@ -6,7 +6,7 @@ ghost use Rattle.vx_flow.specs.Sound.{is_sound_flow};
 ghost use Rattle.vx_target.specs.Finish.{AllCanFinish, Finishes};
 ghost use Rattle.vx_frame.specs.Found.{Found, Made};
 ghost use Rattle.vx_target.specs.Placed.{IsPlaced};
-ghost use Rattle.vx_frame.specs.Placing.{OneSplit, all_places, functions_begin, standing};
+ghost use Rattle.vx_frame.specs.Placing.{WaysDiffer, all_places, functions_begin, standing};
 ghost use Rattle.vx_frame.specs.Regions.{all_traces};
 ghost use Rattle.vx_slots.specs.Seen.{seen};
 
@@ -39,7 +39,7 @@ fn copied_texts(alloc: Global, texts: &[Bytes]) -> Result<Listed<Bytes>, NoMemor
 
 /// The program of a whole of which all but the words and their places are found, and the places of its regions.
 fn program_of(alloc: Global, whole: &Whole, flow: &Flow) -> Result<Finished, NoMemory>
-    requires one_split { (f : ℕ) → f < length flow.now.functions → OneSplit ((seen whole.now).layout f).words }
+    requires differ { (f : ℕ) → f < length flow.now.functions → WaysDiffer ((seen whole.now).layout f).words }
     requires no_more { (f : ℕ) → length flow.now.functions ≤ f → ((seen whole.now).layout f).words ≡ [] }
     ensures made { IfOk result (λ x. Made whole.now flow.now x.program) }
     ensures places { IfOk result (λ x. x.places ≡ all_traces (all_places (seen whole.now) (functions_begin (seen whole.now) flow.now.main) 0 (length flow.now.functions)) 0 whole.now.layouts.now) }
@@ -52,7 +52,7 @@ fn program_of(alloc: Global, whole: &Whole, flow: &Flow) -> Result<Finished, NoM
     Ok(Finished { program, places })
 }
 
-/// The program of such a whole with the words that were found.
+/// The program of such a whole with the words that were found, of the version that has as many branches as the machine.
 fn program_with(
     alloc: Global,
     whole: &Whole,
@@ -65,7 +65,9 @@ fn program_with(
     let memory = memory_bytes(&whole.sizes)?;
     let start = first_words(alloc, flow.globals.as_slice())?;
     let texts = copied_texts(alloc, flow.texts.as_slice())?;
+    let version = whole.machine.branches();
     Ok(WordProgram {
+        version,
         memory,
         start,
         texts,
@@ -84,9 +86,9 @@ fn finish_whole(alloc: Global, whole: &Whole, flow: &Flow) -> Result<Finished, N
 }
 
 /// The words of a program, where its functions are laid out like this, and their values are kept where these maps say: they
-/// carry the layouts, and a word text can spell them. With them come the places of the words of all regions: each region of each
-/// function has its list, also one that has no words. A memory of more than 132,644,864 bytes is want of memory, and so are words
-/// or frames that no list holds.
+/// carry the layouts, a word text can spell them, and the program's version is the number of the machine's branches. With them
+/// come the places of the words of all regions: each region of each function has its list, also one that has no words. A memory of
+/// more than 132,644,864 bytes is want of memory, and so are words or frames that no list holds.
 pub fn finish(
     alloc: Global,
     code: &[VWords],

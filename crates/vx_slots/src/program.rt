@@ -25,6 +25,15 @@ pub struct FunctionFrame {
     pub words: u32,
 }
 
+/// Where a taken split of a word lands.
+#[derive(Clone, Copy)]
+pub struct SplitLanding {
+    /// The place of the layout to which the split leaves.
+    pub to: u32,
+    /// The place of the words at which it arrives.
+    pub at: u32,
+}
+
 /// The places of the words of a function.
 #[derive(Drop)]
 pub struct FunctionPlaces {
@@ -32,8 +41,8 @@ pub struct FunctionPlaces {
     pub entry: u32,
     /// For each place of the layout, and the one behind the last, where its words begin.
     pub starts: Listed<u32>,
-    /// For each place of the layout where a taken split of its word lands.
-    pub landings: Listed<u32>,
+    /// For each place of the layout where the splits of its word land, each of them.
+    pub landings: Listed<Listed<SplitLanding>>,
     /// For each place of the layout where a call there returns, or where the operations of a planned word there stand.
     pub marks: Listed<u32>,
 }

@@ -7,7 +7,7 @@ use Rattle.vx_isa.specs.declared.operation.Operation.TheVariants.{Call}
 use Rattle.vx_isa.specs.declared.program.Word.{Word}
 use Rattle.vx_target.specs.Target.{Target, argument_words, one, passes}
 use Rattle.vx_slots.specs.Seen.{seen}
-use Rattle.vx_calls.proofs.CallSteps.{passed_last, passed_more}
+use Rattle.vx_calls.proofs.CallSteps.{passed_more}
 use Rattle.vx_calls.proofs.call_words.+pass_all.Goals as goal
 
 -- the word of a store and a call, by its parts

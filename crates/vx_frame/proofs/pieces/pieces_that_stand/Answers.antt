@@ -10,7 +10,7 @@ pub returns-clause-placed : goal.returns-clause-placed
 returns-clause-placed c =
     let T = seen c.args.whole.now in
     let trap = c.in_ok-draft.draft.depth_trap in
-    IfOk-weaker c.pieces_of-2.result _ _ (λ made is. second_pass T (seen c.with_places-standing.result) c.args.main c.args.functions trap c.in_ok-draft.draft.places made.words c.requires.one_split c.requires.no_more c.in_ok-draft.ensures.places c.in_ok-draft.ensures.trap (c.with_places-standing.ensures ∙ ap (λ xs. at_spots T (spots_of xs trap)) c.as_slice.ensures) is) c.pieces_of-2.ensures.words
+    IfOk-weaker c.pieces_of-2.result _ _ (λ made is. second_pass T (seen c.with_places-standing.result) c.args.main c.args.functions trap c.in_ok-draft.draft.places made.words c.requires.differ c.requires.no_more c.in_ok-draft.ensures.places c.in_ok-draft.ensures.trap (c.with_places-standing.ensures ∙ ap (λ xs. at_spots T (spots_of xs trap)) c.as_slice.ensures) is) c.pieces_of-2.ensures.words
 
 -- and finds the same
 pub returns-clause-places : goal.returns-clause-places

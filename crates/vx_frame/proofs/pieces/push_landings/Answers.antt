@@ -1,6 +1,7 @@
-use Rattle.std.proofs.Common.{ℕ, List, subst, sym}
+use Rattle.std.proofs.Common.{List, subst, sym}
 use Rattle.std.proofs.lemmas.List.{nil_from_length}
 use Rattle.vx_mixed.specs.declared.layout.VirtualWord.{VirtualWord}
+use Rattle.vx_slots.specs.declared.program.SplitLanding.{SplitLanding}
 use Rattle.vx_slots.specs.Seen.{seen}
 use Rattle.vx_frame.proofs.Emitting.{Lands, lands_first, lands_landings, lands_turn, lands_words}
 use Rattle.vx_frame.proofs.Shorter.{shorter}
@@ -12,13 +13,13 @@ landings-init c =
     let T = seen c.args.whole.now in
     let laid = c.args.laid.now in
     let words = c.args.words.now in
-    subst (λ (z : List ℕ). Lands T c.args.function laid words words z 0 laid) (sym c.requires) (lands_first T c.args.function laid words)
+    subst (λ (z : List (List SplitLanding)). Lands T c.args.function laid words words z 0 laid) (sym c.requires) (lands_first T c.args.function laid words)
 
 -- one word more
 pub landings-preserved : goal.landings-preserved
 landings-preserved c =
-    lands_turn (seen c.args.whole.now) c.args.function c.landings.place c.in_ok-place-in-Some.place c.len-begin.result c.args.laid.now c.landings.rest.now c.in-Some.others.now c.in-Some.word.now c.args.words.now c.landings.words c.push_word_landings.new.words c.landings.landings c.push.new.self
-    c.landings.invariant c.in-Some.ensures.cases.0 c.in_ok-push_word_landings-in-Some.ensures c.len-begin.ensures.len c.in_ok-push-in-Some.ensures.ok c.in_ok-place-in-Some.ensures
+    lands_turn (seen c.args.whole.now) c.args.function c.landings.place c.in_ok-place-in-Some.place c.push_word_landings.new.spots c.args.laid.now c.landings.rest.now c.in-Some.others.now c.in-Some.word.now c.args.words.now c.landings.words c.push_word_landings.new.words c.landings.landings c.push.new.self
+    c.landings.invariant c.in-Some.ensures.cases.0 c.in_ok-push_word_landings-in-Some.ensures.words c.in_ok-push_word_landings-in-Some.ensures.spots c.in_ok-push-in-Some.ensures.ok c.in_ok-place-in-Some.ensures
 
 -- no word is left
 pub returns-in-None-clause-words : goal.returns-in-None-clause-words

@@ -1,10 +1,10 @@
 use Rattle.std.proofs.Common.{Result, Ok, Err, IfOk}
 use Rattle.std.proofs.lemmas.Result.{IfOk-weaker}
-use Rattle.vx_frame.proofs.Assembled.{layouts_split, no_more, finishes}
+use Rattle.vx_frame.proofs.Assembled.{layouts_differ, no_more, finishes}
 use Rattle.vx_frame.proofs.program_words.finish_whole.Goals as goal
 
-pub program_of-requires-clause-one_split : goal.program_of-requires-clause-one_split
-program_of-requires-clause-one_split c = layouts_split c.args.whole.now.machine.now c.args.flow.now c.args.whole.now.layouts.now c.args.whole.now.maps.now c.requires.found.can
+pub program_of-requires-clause-differ : goal.program_of-requires-clause-differ
+program_of-requires-clause-differ c = layouts_differ c.args.whole.now.machine.now c.args.flow.now c.args.whole.now.layouts.now c.args.whole.now.maps.now c.requires.found.can
 
 pub program_of-requires-clause-no_more : goal.program_of-requires-clause-no_more
 program_of-requires-clause-no_more c = no_more c.args.whole.now.machine.now c.args.flow.now c.args.whole.now.layouts.now c.args.whole.now.maps.now c.requires.found.can

@@ -11,8 +11,8 @@ program_with-requires c =
     let main = c.args.flow.now.main in
     subst (λ n. IsPlaced (standing (seen c.args.whole.now) main n) main n c.in_ok-pieces.pieces.words) c.len-functions.ensures.len c.in_ok-pieces.ensures.placed
 
-pub pieces_that_stand-requires-clause-one_split : goal.pieces_that_stand-requires-clause-one_split
-pieces_that_stand-requires-clause-one_split c = λ f lt. c.requires.one_split f (subst (λ (n : ℕ). f < n) c.len-functions.ensures.len lt)
+pub pieces_that_stand-requires-clause-differ : goal.pieces_that_stand-requires-clause-differ
+pieces_that_stand-requires-clause-differ c = λ f lt. c.requires.differ f (subst (λ (n : ℕ). f < n) c.len-functions.ensures.len lt)
 
 pub returns-clause-places : goal.returns-clause-places
 returns-clause-places c =

@@ -10,6 +10,7 @@ pub returns : goal.returns
 returns c =
     let start = c.in_ok-start.start in
     record {
+      version = c.branches-version.ensures;
       memory = c.in_ok-memory.ensures.is;
       few_bytes = c.in_ok-memory.ensures.few;
       start = subst (λ (gs : List Global). (a i : ℕ) (x : Global) → slice_get gs a ≡ Some x → i < x.words → memory_at_start start (4 * (words_before gs a + i)) ≡ first_or_zero x.first i) c.as_slice.ensures c.in_ok-start.ensures.start;
