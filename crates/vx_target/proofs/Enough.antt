@@ -176,7 +176,7 @@ module _ (T : Target) (f : ℕ) (mapped : IsMapped T f) (sound : Sound (T.graph 
   abbrev Clustered : List ClusteredItem
   Clustered = map item_of_laid items
 
-  room_parts : Six (is_machine T.machine) (stand_well T.machine TheHomes Clustered) (all_below T.machine.clusters (has_room_at T.machine TheHomes Clustered)) (nat_le (count_in (needs Copies) Clustered) T.machine.copy_paths) (nat_le (count_in is_split Clustered) 1) (nat_le (count_in is_observable_item Clustered) 1)
+  room_parts : Six (is_machine T.machine) (stand_well T.machine TheHomes Clustered) (all_below T.machine.clusters (has_room_at T.machine TheHomes Clustered)) (nat_le (count_in (needs Copies) Clustered) T.machine.copy_paths) (nat_le (count_in is_split Clustered) T.machine.branches) (nat_le (count_in is_observable_item Clustered) 1)
   room_parts = six_parts _ _ _ _ _ _ (mapped.settled.fits p items plans)
 
   cluster_parts : (k : ℕ) → k < T.machine.clusters → Six (nat_le (count_at k (λ item. true) Clustered) T.machine.issue) (nat_le (count_at k (needs Alu) Clustered) T.machine.alus) (nat_le (count_at k (needs Multiply) Clustered) T.machine.multipliers) (nat_le (count_at k (needs Memory) Clustered) T.machine.memory_units) (nat_le (reads_at TheHomes k Clustered) T.machine.read_ports) (nat_le (writes_at k Clustered) T.machine.write_ports)

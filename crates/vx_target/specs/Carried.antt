@@ -125,7 +125,8 @@ pub record Carries (T : Target) (flow : Flow) (ls : List VWords) (w : WordProgra
   pub small : 4 * memory_words T ≤ 132644864
   pub memory : w.memory ≡ 4 * memory_words T
   pub start : (a i : ℕ) (x : Global) → slice_get flow.globals a ≡ Some x → i < x.words → memory_at_start w.start (4 * (words_before flow.globals a + i)) ≡ first_or_zero x.first i
-  -- words
+  -- words, of the version that is the number of the machine's branches
+  pub version : w.version ≡ T.machine.branches
   pub texts : w.texts ≡ flow.texts
   pub placed : IsPlaced T flow.main (length flow.functions) w.words
   pub few : length w.words < 2 ^ 32

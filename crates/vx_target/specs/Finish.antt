@@ -39,10 +39,12 @@ pub record AllCanFinish (m : Numbers) (flow : Flow) (ls : List VWords) (ms : Lis
   pub maps : length ms ≡ length flow.functions
   pub each : (f : ℕ) → f < length flow.functions → CanFinish m flow ls ms f
 
--- the words carry the layouts of the flow, with values kept where the maps say, and are a program that a word text can spell
+-- the words carry the layouts of the flow, with values kept where the maps say, and are a program that a word text can spell, of the
+-- version that is the number of the machine's branches
 pub record IsFinished (m : Numbers) (flow : Flow) (layouts : List VWords) (maps : List RegMap) (w : WordProgram) : Type 0 where
   pub target : Target
   pub machine_is : target.machine ≡ m
+  pub version : w.version ≡ m.branches
   pub maps_are : (f : ℕ) → f < length flow.functions → slice_get maps f ≡ Some (target.maps f)
   pub carries : Carries target flow layouts w
   pub sound : is_sound w ≡ true

@@ -9,7 +9,7 @@ use Rattle.vx_isa.specs.declared.operation.Register.{Register}
 use Rattle.vx_isa.specs.declared.operation.Register.TheVariants.{General}
 use Rattle.vx_isa.specs.declared.operation.Source.TheVariants.{Held, Number}
 use Rattle.vx_isa.specs.declared.operation.Operation.{Operation}
-use Rattle.vx_isa.specs.declared.operation.Operation.TheVariants.{Compute, Load, Store, Halt}
+use Rattle.vx_isa.specs.declared.operation.Operation.TheVariants.{Compute, Load, Store, BranchOn, Halt}
 use Rattle.vx_isa.specs.declared.program.Word.{Word}
 use Rattle.vx_isa.specs.declared.program.WordProgram.{WordProgram}
 use Rattle.vx_isa.specs.Numbers.{vex}
@@ -19,7 +19,7 @@ use Rattle.vx_target.specs.Target.{general, stack_on, one, waits, in_flight}
 use Rattle.vx_tie.proofs.Early.{words_kind, pieces_late}
 
 abbrev program : List Word → WordProgram
-program ws = record { memory = 0; start = []; texts = []; words = ws }
+program ws = record { version = 1; memory = 0; start = []; texts = []; words = ws }
 
 abbrev in_general : ℕ → Register
 in_general n = General (general 0 n)
@@ -53,6 +53,15 @@ too_short : NeverReadsEarly (vex 1) (program (one (load 11) ∷ waits 1 ∷ one 
 too_short never =
     let h : 3 ≤ 2 = never 0 2 (in_general 11) 3 2 here (one (load 11), load 11, refl, inl refl, refl, refl, refl, refl)
     (more (first (one (load 11), waits 1, refl, refl, refl)) (waits 1, one (store 11), refl, refl, refl)) (one (store 11), refl, inr (inl refl), refl) in
+    omega arith
+
+-- a word of two branches leads to both their places: that of the second one reads early what is loaded beside them
+abbrev branches : Word
+branches = record { ops = load 11 ∷ BranchOn 0 true 1 ∷ BranchOn 1 true 2 ∷ []; idle = 0 }
+
+second_branch : NeverReadsEarly (vex 1) (record (program (branches ∷ one halt ∷ one (store 11) ∷ [])) { version = 2 }) → ⊥
+second_branch never =
+    let h : 3 ≤ 1 = never 0 2 (in_general 11) 3 1 here (branches, load 11, refl, inl refl, refl, refl, refl, refl) (first (branches, one (store 11), refl, refl, inr (inl refl))) (one (store 11), refl, inr (inl refl), refl) in
     omega arith
 
 -- two operands share a scratch register, or a value is loaded twice: the second load writes while the first is in flight

@@ -2,7 +2,7 @@
 use Rattle.std.proofs.Common.{◌≡◌, ◌≢◌, ◌<◌, ◌≤◌, ◌⊎◌, inl, inr, ⊎_elim, ◌+◌, ℕ, zero, suc, Bool, true, false, ◌&&◌, ◌||◌, not, eqb, nat_le, nat_lt, cond, Option, Some, None, List, [], ◌∷◌, ◌++◌, map, count_by, refl, sym, ap, ◌∙◌, subst, arith}
 use Rattle.std.specs.List.{list_all, list_any, flat_map}
 use Rattle.std.specs.Cmp.Derive.{both_true}
-use Rattle.std.proofs.lemmas.Bool.{and_parts, le-leb, lt-ltb, ne_eqb}
+use Rattle.std.proofs.lemmas.Bool.{and_parts, leb-true, le-leb, lt-ltb, ne_eqb}
 use Rattle.vx_flow.specs.Walk.{numbers}
 use Rattle.vx_isa.specs.declared.operation.Register.{Register}
 use Rattle.vx_isa.specs.declared.operation.Register.TheVariants.{General, Branch, Link}
@@ -13,10 +13,11 @@ use Rattle.vx_isa.specs.declared.operation.UnitKind.TheVariants.{Alu, Multiply, 
 use Rattle.vx_isa.specs.declared.operation.Operation.{Operation}
 use Rattle.vx_isa.specs.declared.operation.Operation.TheVariants.{Compute, Move, Select, Load, Store, Input, More, OutText, OutDecimal, OutByte, Goto, BranchOn, Call, Return, FromLink, ToLink, EndByTrap, Halt}
 use Rattle.vx_isa.specs.Numbers.{Numbers, is_machine, IsMachine}
-use Rattle.vx_isa.specs.Operations.{same, cluster_of, read_of, reads_of, list_of, destination_of, is_control, is_observable}
-use Rattle.vx_isa.specs.Fits.{operands, destinations, is_twice, keeps_to_cluster, is_in_file, is_bad_word, is_of, count_on, reads_on, writes_on, takes_read_port, takes_write_port, all_below, stands_on, fits_cluster, fits}
+use Rattle.vx_isa.specs.Operations.{same, cluster_of, read_of, reads_of, list_of, destination_of, is_control, is_lone, is_observable}
+use Rattle.vx_isa.specs.Fits.{operands, destinations, is_twice, keeps_to_cluster, is_in_file, is_bad_word, is_of, count_on, reads_on, writes_on, takes_read_port, takes_write_port, all_below, stands_on, fits_cluster, fits_control, fits}
 use Rattle.vx_isa.proofs.FitsLaw.{six_parts, six_together, all_below-holds, registers_pass}
 use Rattle.vx_isa.proofs.Lists.{count_by-append, count_by-cons}
+use Rattle.vx_isa.proofs.Ranges.{ranges}
 use Rattle.vx_target.specs.Target.{stack_on}
 use Rattle.vx_target.proofs.Limits.{Limits}
 
@@ -33,7 +34,7 @@ bad_parts false false c e f g = absurd (let z : false ≡ true = f in cc)
 
 all_filed : (m : Numbers) (ops : List Operation) → fits m ops ≡ true → list_all (is_in_file m) (operands ops ++ destinations ops) ≡ true
 all_filed m ops fit =
-    let six = six_parts (is_machine m) (stands_on m ops) (all_below m.clusters (fits_cluster m ops)) (nat_le (count_by (is_of Copies) ops) m.copy_paths) (nat_le (count_by is_control ops) 1) (nat_le (count_by is_observable ops) 1) fit in
+    let six = six_parts (is_machine m) (stands_on m ops) (all_below m.clusters (fits_cluster m ops)) (nat_le (count_by (is_of Copies) ops) m.copy_paths) (fits_control m ops) (nat_le (count_by is_observable ops) 1) fit in
     (and_parts (list_all (λ op. nat_lt (cluster_of op) m.clusters) ops) (list_all (is_in_file m) (operands ops ++ destinations ops)) six.two).1
 
 pub well : (m : Numbers) (ops : List Operation) → is_twice (destinations ops) ≡ false → list_all keeps_to_cluster ops ≡ true → fits m ops ≡ true → Good m ops
@@ -119,6 +120,12 @@ reads_two k (Halt a) = source_two k a
 
 -- words
 
+-- each machine has a place for one control operation
+one_place : (m : Numbers) (ops : List Operation) → IsMachine m → count_by is_control ops ≤ 1 → fits_control m ops ≡ true
+one_place m ops machine few =
+    let least = (ranges m machine).branches.least in
+    both_true (le-leb (count_by is_control ops) m.branches (omega arith)) (ap (λ b. b || list_all (λ op. not (is_lone op)) ops) (le-leb (count_by is_control ops) 1 few))
+
 module _ (m : Numbers) (machine : IsMachine m) (l : Limits m) where
   pub empty_good : Good m []
   empty_good = well m [] refl refl (six_together _ _ _ _ _ _ (record {
@@ -126,7 +133,7 @@ module _ (m : Numbers) (machine : IsMachine m) (l : Limits m) where
     two = refl;
     three = all_below-holds (fits_cluster m []) m.clusters (λ k lt. six_together _ _ _ _ _ _ (record { one = at_least m.issue; two = at_least m.alus; three = at_least m.multipliers; four = at_least m.memory_units; five = at_least m.read_ports; six = at_least m.write_ports }));
     four = at_least m.copy_paths;
-    five = refl;
+    five = one_place m [] machine (let q : count_by is_control [] ≡ 0 = refl in omega arith);
     six = refl;
   }))
     where
@@ -146,7 +153,7 @@ module _ (m : Numbers) (machine : IsMachine m) (l : Limits m) where
       six = le-leb (writes_on k (op ∷ [])) m.write_ports (let a = written (destination_of op) k in let b = l.writes in omega arith);
     }));
     four = most (is_of Copies) m.copy_paths l.copies;
-    five = most is_control 1 (omega arith);
+    five = one_place m (op ∷ []) machine (count_single is_control op);
     six = most is_observable 1 (omega arith);
   }))
     where
@@ -273,6 +280,6 @@ module _ (g : ℕ → Operation) where
             (registers_pass (is_in_file m) Ops ∙ both_true (all_spread (λ op. list_all (is_in_file m) (reads_of op)) 0 m.clusters (λ i lt. filed i (omega arith))) (all_spread (λ op. list_all (is_in_file m) (list_of (destination_of op))) 0 m.clusters (λ i lt. to_filed i (omega arith))));
         three = all_below-holds (fits_cluster m Ops) m.clusters (λ k lt. on_cluster k);
         four = none_of (is_of Copies) m.copy_paths no_copy;
-        five = none_of is_control 1 no_control;
+        five = one_place m Ops machine (leb-true (count_by is_control Ops) 1 (none_of is_control 1 no_control));
         six = none_of is_observable 1 unseen;
       }))

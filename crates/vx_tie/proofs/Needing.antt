@@ -24,10 +24,10 @@ use Rattle.vx_isa.specs.declared.operation.Register.{Register}
 use Rattle.vx_isa.specs.declared.operation.Register.TheVariants.{General, Branch}
 use Rattle.vx_isa.specs.declared.operation.Source.{Source}
 use Rattle.vx_isa.specs.declared.operation.Source.TheVariants.{Held, Number}
-use Rattle.vx_isa.specs.declared.operation.UnitKind.TheVariants.{Alu, Copies}
+use Rattle.vx_isa.specs.declared.operation.UnitKind.TheVariants.{Alu, Copies, Control}
 use Rattle.vx_isa.specs.declared.operation.Operation.{Operation}
 use Rattle.vx_isa.specs.declared.operation.Operation.TheVariants.{Compute, Move}
-use Rattle.vx_isa.specs.Operations.{cluster_of_register, is_general, is_zero, cluster_of, read_of, reads_of, list_of, destination_of, unit_of, unit_of_code, comes_from, is_observable}
+use Rattle.vx_isa.specs.Operations.{cluster_of_register, is_general, is_zero, cluster_of, read_of, reads_of, list_of, destination_of, unit_of, unit_of_code, same_unit, comes_from, is_branch as is_branch_op, is_lone, is_observable}
 use Rattle.vx_isa.specs.Fits.{keeps_to_cluster, all_on, is_in_file, takes_read_port, takes_write_port}
 use Rattle.vx_isa.proofs.Lists.{count_by-append, count_by-cons, count_by-none}
 use Rattle.vx_machine.specs.declared.items.ClusteredItem.{ClusteredItem}
@@ -121,6 +121,19 @@ unary_general Mpylu e = refl
 unary_general Mpyhs e = refl
 unary_general Div e = refl
 unary_general Rem e = refl
+
+-- no operation on values takes a control place
+
+no_control : (code : Code) → same_unit (unit_of_code code) Control ≡ false
+no_control Mpylu = refl
+no_control Mpyhs = refl
+no_control Div = refl
+no_control Rem = refl
+no_control code = refl
+
+no_control_op : (op : Op) → same_unit (unit_of_item (PlainItem op)) Control ≡ false
+no_control_op (Computes code v a b) = no_control code
+no_control_op op = refl
 
 -- registers of one cluster
 
@@ -327,11 +340,15 @@ module _ (T : Target) (f : ℕ) (mapped : IsMapped T f) (sound : Sound (T.graph 
 
   -- an operation that carries an item
 
+  never_lone : (op : Op) (o : Operation) → unit_of o ≡ unit_of_item (PlainItem op) → is_lone o ≡ false
+  never_lone op o e = ap (λ u. same_unit u Control && not (is_branch_op o)) e ∙ ap (λ b. b && not (is_branch_op o)) (no_control_op op)
+
   abbrev at_item : Op → ℕ → ClusteredItem
   at_item op k = record { item = PlainItem op; cluster = k }
 
   pub record Carrying (x : ClusteredItem) (o : Operation) (vs : List ℕ) : Type 0 where
     pub needs : Needs TheHomes x o
+    pub not_lone : is_lone o ≡ false
     pub keeps : keeps_to_cluster o ≡ true
     pub reads : Filed (reads_of o)
     pub writes : Filed (list_of (destination_of o))
@@ -365,6 +382,7 @@ module _ (T : Target) (f : ℕ) (mapped : IsMapped T f) (sound : Sound (T.graph 
           writes = λ c. subst (λ d. count_by (takes_write_port c) (list_of d) ≤ (if eqb k c && writes_general_op op then 1 else 0)) (sym to)
               (subst (λ b. count_by (takes_write_port c) (General (general_of T f Ws v) ∷ []) ≤ (if eqb k c && b then 1 else 0)) (sym wg) (write_general k c (general_of T f Ws v) r.0));
         };
+        not_lone = never_lone op o un;
         keeps = keeps;
         reads = filed;
         writes = subst (λ d. Filed (list_of d)) (sym to) (both_true r.1 refl);
@@ -383,6 +401,7 @@ module _ (T : Target) (f : ℕ) (mapped : IsMapped T f) (sound : Sound (T.graph 
           writes = λ c. subst (λ d. count_by (takes_write_port c) (list_of d) ≤ (if eqb k c && writes_general_op op then 1 else 0)) (sym to)
               (let z = no_write c (Branch (record { cluster = 0; number = branch_of T f Ws v })) refl in omega arith);
         };
+        not_lone = never_lone op o un;
         keeps = keeps;
         reads = filed;
         writes = subst (λ d. Filed (list_of d)) (sym to) (both_true (branch_filed T f mapped l Ws v few_w m (bank v (inr m)) e) refl);
@@ -398,6 +417,7 @@ module _ (T : Target) (f : ℕ) (mapped : IsMapped T f) (sound : Sound (T.graph 
       reads = rd;
       writes = λ c. subst (λ d. count_by (takes_write_port c) (list_of d) ≤ (if eqb k c && writes_general_op op then 1 else 0)) (sym to) (no_register c (if eqb k c && writes_general_op op then 1 else 0));
     };
+    not_lone = never_lone op o un;
     keeps = keeps;
     reads = filed;
     writes = subst (λ d. Filed (list_of d)) (sym to) refl;
@@ -583,6 +603,7 @@ module _ (T : Target) (f : ℕ) (mapped : IsMapped T f) (sound : Sound (T.graph 
           reads = λ c. (let z = count_none (takes_read_port c) (Branch (record { cluster = 0; number = branch_of T f Rs test })) (no_branch c (record { cluster = 0; number = branch_of T f Rs test })) in omega arith);
           writes = λ c. no_register c (if eqb 0 c && false then 1 else 0);
         };
+        not_lone = refl;
         keeps = refl;
         reads = both_true (branch_filed T f mapped l Rs test few_r m (bank test (inl m)) e) refl;
         writes = refl;

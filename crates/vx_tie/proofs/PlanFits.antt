@@ -1,8 +1,8 @@
 -- A planned word is well formed and fits: its items have room, and its operations need no more.
-use Rattle.std.proofs.Common.{◌≡◌, ◌≢◌, ◌⊎◌, inl, inr, ℕ, Bool, true, false, ◌||◌, Some, List, [], ◌∷◌, ◌++◌, map, refl, sym, ap, ◌∙◌, arith}
+use Rattle.std.proofs.Common.{◌≡◌, ◌≢◌, ◌⊎◌, inl, inr, ℕ, All, Bool, true, false, ◌||◌, not, slice_index_or, Some, List, [], ◌∷◌, ◌++◌, map, refl, sym, ap, ◌∙◌, arith}
 use Rattle.std.specs.List.{list_all, list_any}
 use Rattle.std.specs.Cmp.Derive.{both_true}
-use Rattle.std.proofs.lemmas.Bool.{and_parts}
+use Rattle.std.proofs.lemmas.Bool.{and_parts, false≢true}
 use Rattle.std.proofs.lemmas.Bool.Decides.{nat_tests}
 use Rattle.std.proofs.lemmas.List.Sums.{AllPass-from_list_all}
 use Rattle.vx_flow.specs.declared.graph.Bank.{Bank}
@@ -15,7 +15,7 @@ use Rattle.vx_isa.specs.declared.operation.Register.TheVariants.{General, Branch
 use Rattle.vx_isa.specs.declared.operation.Operation.{Operation}
 use Rattle.vx_isa.specs.declared.operation.Operation.TheVariants.{BranchOn}
 use Rattle.vx_isa.specs.Numbers.{Numbers}
-use Rattle.vx_isa.specs.Operations.{same, reads_of, list_of, destination_of}
+use Rattle.vx_isa.specs.Operations.{same, reads_of, list_of, destination_of, is_lone}
 use Rattle.vx_isa.specs.Fits.{operands, destinations, is_twice, keeps_to_cluster, is_in_file, IsInFile}
 use Rattle.vx_isa.proofs.AnyTiming.{tells}
 use Rattle.vx_isa.proofs.FitsLaw.{six_parts, registers_pass, fits_in_words}
@@ -121,7 +121,14 @@ module _ (T : Target) (f : ℕ) (mapped : IsMapped T f) (sound : Sound (T.graph 
       (all_pass (λ op. list_all (is_in_file T.machine) (reads_of op)) (λ x i. (item_carries x i).reads) items (λ x i. i))
       (all_pass (λ op. list_all (is_in_file T.machine) (list_of (destination_of op))) (λ x i. (item_carries x i).writes) items (λ x i. i))
 
+  none_lone : All (λ op. is_lone op ≡ false) (Ops items)
+  none_lone k d h = by (is_lone (slice_index_or (Ops items) k d)) (AllPass-from_list_all (λ op. not (is_lone op)) (Ops items) (all_pass (λ op. not (is_lone op)) (λ x i. ap not (item_carries x i).not_lone) items (λ x i. i)) k d h)
+    where
+      by : (b : Bool) → not b ≡ true → b ≡ false
+      by true e = absurd (false≢true e)
+      by false e = refl
+
   pub plan_good : FitsByRoom → Good T.machine (Ops items)
   plan_good by_room = well T.machine (Ops items) (ap is_twice (results items (λ x i. i)) ∙ once Ws (λ u i. i) (mapped.settled.once p items plans)) (all_pass keeps_to_cluster (λ x i. (item_carries x i).keeps) items (λ x i. i))
-      ((fits_in_words T.machine (Ops items)).1 (by_room T.machine TheHomes (map item_of_laid items) (Ops items) (mapped.settled.fits p items plans) (needs_each items (λ x i. i))
+      ((fits_in_words T.machine (Ops items)).1 (by_room T.machine TheHomes (map item_of_laid items) (Ops items) (mapped.settled.fits p items plans) (needs_each items (λ x i. i)) (inr none_lone)
       (λ k d h. in_file T.machine _ (AllPass-from_list_all (is_in_file T.machine) (operands (Ops items) ++ destinations (Ops items)) all_filed k d h))))

@@ -1,5 +1,5 @@
 -- The words that carry a flow are sound: short pauses, operations of their form, and places, functions and texts that are there.
-use Rattle.std.proofs.Common.{◌≡◌, ◌<◌, ◌≤◌, ◌⊎◌, inl, inr, ⊎_elim, ◌+◌, ◌-◌, ◌*◌, ◌%◌, ◌==◌, ◌&&◌, ◌||◌, ℕ, zero, suc, ℤ, pos, neg_ℤ, Bool, true, false, Option, Some, None, List, [], ◌∷◌, ◌++◌, length, length-append, map, refl, sym, ap, subst, arith}
+use Rattle.std.proofs.Common.{◌≡◌, ◌<◌, ◌≤◌, ◌⊎◌, inl, inr, ⊎_elim, ◌+◌, ◌-◌, ◌*◌, ◌%◌, ◌==◌, ◌&&◌, ◌||◌, ℕ, zero, suc, ℤ, pos, neg_ℤ, Bool, true, false, Option, Some, None, List, [], ◌∷◌, ◌++◌, length, length-append, map, refl, sym, ap, ◌∙◌, subst, arith}
 use Rattle.std.specs.Prelude.{if◌then◌else◌, slice_get}
 use Rattle.std.specs.List.{list_all}
 use Rattle.std.specs.Cmp.Derive.{both_true}
@@ -28,8 +28,9 @@ use Rattle.vx_isa.specs.declared.program.Word.{Word}
 use Rattle.vx_isa.specs.declared.program.WordProgram.{WordProgram}
 use Rattle.vx_isa.specs.Fits.{fits}
 use Rattle.vx_isa.specs.Operations.{latency_of}
-use Rattle.vx_isa.specs.Sound.{is_start, is_sound, is_sound_word}
+use Rattle.vx_isa.specs.Sound.{is_start, is_version, is_sound, is_sound_word}
 use Rattle.vx_isa.proofs.FitsLaw.{six_parts}
+use Rattle.vx_isa.proofs.Ranges.{ranges}
 use Rattle.vx_machine.specs.Needs.{FitsByRoom}
 use Rattle.vx_machine.specs.Room.{stands_well}
 use Rattle.vx_mixed.specs.declared.layout.Laid.{Laid}
@@ -555,8 +556,18 @@ module _ (T : Target) (flow : Flow) (ls : List VWords) (w : WordProgram) (sound 
     aligned : (n k : ℕ) → n ≡ 4 * k → (n % 4 == 0) ≡ true
     aligned n k e = let z : n % 4 ≡ 0 = omega arith in ap (λ x. x == 0) z
 
+    -- a machine has one branch a word, or two
+    version_by : (n : ℕ) → 1 ≤ n → n ≤ 2 → is_version n ≡ true
+    version_by zero least most = absurd (omega arith)
+    version_by (suc zero) least most = refl
+    version_by (suc (suc zero)) least most = refl
+    version_by (suc (suc (suc n))) least most = absurd (omega arith)
+
+    version_is : is_version w.version ≡ true
+    version_is = let branches = (ranges T.machine carries.machine).branches in ap is_version carries.version ∙ version_by T.machine.branches branches.least branches.most
+
     pub program_sound : is_start w.memory 0 w.start ≡ true → is_sound w ≡ true
-    program_sound start = both_true (both_true (both_true (aligned w.memory (memory_words T) carries.memory) (le-leb w.memory 134217728 (let a = carries.memory in let b = carries.small in omega arith))) start)
+    program_sound start = both_true (both_true (both_true (both_true version_is (aligned w.memory (memory_words T) carries.memory)) (le-leb w.memory 134217728 (let a = carries.memory in let b = carries.small in omega arith))) start)
         (words_sound w.words all_right (λ p word e. (words_fit T flow ls w sound carries by_room p word e).1))
 
 pub sound_law : FitsByRoom → SoundLaw

@@ -8,12 +8,13 @@ use Rattle.vx_flow.specs.declared.graph.Flow.{Flow}
 use Rattle.vx_flow.specs.Meaning.{Active, at_start, globals_at_start, setting_with, body_hop, after_hop, next}
 use Rattle.vx_flow.specs.Sound.{is_sound_flow}
 use Rattle.vx_isa.specs.declared.program.WordProgram.{WordProgram}
-use Rattle.vx_isa.specs.Machine.{State, step, start}
+use Rattle.vx_isa.specs.Machine.{State, step, start, issuing_machine, words_from}
+use Rattle.vx_isa.proofs.IssuingMachine.{issuing_machine_own}
 use Rattle.vx_isa.proofs.Steady.{output_grows}
 use Rattle.vx_mixed.specs.declared.layout.VirtualWord.{VirtualWord}
 use Rattle.vx_mixed.specs.declared.layout.VirtualWord.TheVariants.{Planned, Drain, Transfer, Choice, Call, Return, Ends}
 use Rattle.vx_mixed.specs.declared.layout.VWords.{VWords}
-use Rattle.vx_layout.specs.Laid.{laid_program, laid_hop, laid_body, some_word_hop}
+use Rattle.vx_layout.specs.Laid.{laid_program, laid_run, laid_hop, laid_body, some_word_hop}
 use Rattle.vx_layout.proofs.LaidGrows.{laid_grows}
 use Rattle.vx_target.specs.Target.{Target}
 use Rattle.vx_target.specs.Tied.{Tied, AtWord, AtEntry}
@@ -123,5 +124,12 @@ module _ (T : Target) (flow : Flow) (ls : List VWords) (w : WordProgram) (sound 
         (run_steady (step T.machine (1 ∷ []) w) (λ t. t.out) (output_grows T.machine (1 ∷ []) w) (start w input))
         (λ n. from_start n (meets_at n Begin starts.to starts.tied))
 
+-- the words are issued by the machine itself, since the version is the number of its branches
 pub whole_law : WholeLaw
-whole_law T flow ls w sound carries fit input safe = let k = whole_run T flow ls w sound carries fit input safe in record { same = k.0; never_stuck = k.1 }
+whole_law T flow ls w sound carries fit input safe =
+    let k = whole_run T flow ls w sound carries fit input safe in
+    let own : T.machine ≡ issuing_machine w T.machine = sym (issuing_machine_own w T.machine carries.version) in
+    record {
+      same = subst (λ m. Same (laid_run flow ls input) (λ n. words_from m (1 ∷ []) w n (start w input))) own k.0;
+      never_stuck = subst (λ m. NeverFails (λ n. words_from m (1 ∷ []) w n (start w input))) own k.1;
+    }
