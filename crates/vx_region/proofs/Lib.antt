@@ -3,6 +3,7 @@ pub mod PlainItems
 pub mod Table
 pub mod NeverMeeting
 pub mod TableMet
+pub mod TwoSplits
 pub mod BelowJoins
 pub mod Greatest
 pub mod MadeCopies

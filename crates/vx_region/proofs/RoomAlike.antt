@@ -89,7 +89,7 @@ module _ (m : Numbers) (homes : Homes) where
       let copies : count_in (needs Copies) (map erased xs) ≡ count_in (needs Copies) xs = in_all (needs Copies) (λ i. needed Copies i) in
       let splits : count_in is_split (map erased xs) ≡ count_in is_split xs = in_all is_split (λ i. (same_needs i).split) in
       let observable : count_in is_observable_item (map erased xs) ≡ count_in is_observable_item xs = in_all is_observable_item (λ i. (same_needs i).observable) in
-      λ i. is_machine m && stand i && all_below m.clusters (λ k. each sources k i) && nat_le (copies i) m.copy_paths && nat_le (splits i) 1 && nat_le (observable i) 1
+      λ i. is_machine m && stand i && all_below m.clusters (λ k. each sources k i) && nat_le (copies i) m.copy_paths && nat_le (splits i) m.branches && nat_le (observable i) 1
     where
       needed : (u : UnitKind) (i : Item) → needs u (all_dismissed i) ≡ needs u i
       needed u i = ap (λ z. same_unit z u) (same_needs i).unit

@@ -62,7 +62,7 @@ module _ (homes homes' : List (Option ℕ)) where
       let c = all_clusters word h in
       λ i. is_machine m && (list_all (stands_well m) xs && list_all (is_cluster m) (c i))
       && all_below m.clusters (λ k. nat_le (count_at k (λ item. true) xs) m.issue && nat_le (count_at k (needs Alu) xs) m.alus && nat_le (count_at k (needs Multiply) xs) m.multipliers && nat_le (count_at k (needs Memory) xs) m.memory_units && nat_le (count_by (is_at k) (c i)) m.read_ports && nat_le (writes_at k xs) m.write_ports)
-      && nat_le (count_in (needs Copies) xs) m.copy_paths && nat_le (count_in is_split xs) 1 && nat_le (count_in is_observable_item xs) 1
+      && nat_le (count_in (needs Copies) xs) m.copy_paths && nat_le (count_in is_split xs) m.branches && nat_le (count_in is_observable_item xs) 1
 
 pub is_room : (m : Numbers) → IsRoom (room_in m)
 is_room m = record {

@@ -18,7 +18,7 @@ use Rattle.vx_mixed.specs.Way.{item_latency}
 use Rattle.vx_motion.specs.Compensation.{live_of, is_join_place}
 use Rattle.vx_mixed.specs.TraceItems.{plain_item, plain_items}
 use Rattle.vx_dep.specs.declared.mode.Mode.{Mode}
-use Rattle.vx_dep.specs.Delays.{writes_of, is_load, is_store, is_observable, leaves, latency_of, JoinBetween, Applies, Row as DelayRow, reads_written, writes_written, writes_read as writes_what_is_read, both_observable, both_splits, seen_behind_split, live_behind_split, seen_behind_join}
+use Rattle.vx_dep.specs.Delays.{writes_of, is_load, is_store, is_observable, leaves, latency_of, between_splits, JoinBetween, Applies, Row as DelayRow, reads_written, writes_written, writes_read as writes_what_is_read, both_observable, both_splits, seen_behind_split, live_behind_split, seen_behind_join}
 use Rattle.vx_dep.specs.Compensation.{word_at}
 use Rattle.vx_region.proofs.PlainItems.{plain_many, nth_at, some_at, writes_there, writes_back, reads_there, live_there, latency_there, split_there, store_there, load_there, observable_there}
 
@@ -118,7 +118,7 @@ module _ (m : Numbers) (mode : Mode) (t : Trace) (words : List ℕ) (met : (i j 
         let h = ltb-false (word_at words j) (word_at words i) r in
         omega (arith, h)
     by_row d (observables x y) = applies 1 (both_observable (observable_there a (subst IsObservable first x)) (observable_there b (subst IsObservable second y)))
-    by_row d (two_splits x y) = let h = applies 1 (both_splits (split_a x) (split_there b (subst IsSplit second y))) in omega (arith, h)
+    by_row d (two_splits x y) = let h = applies (between_splits m) (both_splits (split_a x) (split_there b (subst IsSplit second y))) in omega (arith, h)
     by_row d (split_held x y) = applies 1 (seen_behind_split (split_a x) (held_b y))
     by_row d (below_join q joins lo hi y) = applies 1 (seen_behind_join (between q joins lo hi) (seen_b y))
     by_row d (split_live v x l y) = applies 1 (live_behind_split v (split_a x) (live_there a v (subst (λ z. IsIn v (live_of z)) at_a l)) (writes_b v y))

@@ -1,11 +1,26 @@
 // The worked graphs. Values 0 to 5 are general ones, and value 6 is the branch value of a test.
 
 use vx_base::arithmetic::{Code, Compare};
-use vx_flow::graph::{Op, Operand};
+use vx_flow::graph::{Bank, Op, Operand};
 use vx_test_graphs::{Act, BANKS, Part, Shape, Way};
 
 /// v6 = v1 < 10
 const TEST: Act = Act::On(Code::ToBranch(Compare::Lt), 6, 1, Operand::Number(10));
+
+/// v7 = v2 < 10
+const SECOND_TEST: Act = Act::On(Code::ToBranch(Compare::Lt), 7, 2, Operand::Number(10));
+
+/// Six general values, and a second test.
+const TWO_BRANCH_BANKS: [Bank; 8] = [
+    Bank::General,
+    Bank::General,
+    Bank::General,
+    Bank::General,
+    Bank::General,
+    Bank::General,
+    Bank::Branch,
+    Bank::Branch,
+];
 
 /// v3 = v1 + 5
 const SUM: Act = Act::On(Code::Add, 3, 1, Operand::Number(5));
@@ -31,6 +46,20 @@ pub(crate) const SINKING: Shape<'static> = Shape {
         Part(&[], Way::Goto(2)),
     ],
     banks: &BANKS,
+    parameters: &[1, 2],
+    arrays: &[],
+};
+
+/// v6 = v1 < 10; v7 = v2 < 10; if (v6) if (v7) return 1; else return 3; else return 2.
+pub(crate) const TWO_TESTS: Shape<'static> = Shape {
+    parts: &[
+        Part(&[TEST, SECOND_TEST], Way::Split(6, 1, 3)),
+        Part(&[], Way::Split(7, 2, 4)),
+        Part(&[], Way::Return(Operand::Number(1))),
+        Part(&[], Way::Return(Operand::Number(2))),
+        Part(&[], Way::Return(Operand::Number(3))),
+    ],
+    banks: &TWO_BRANCH_BANKS,
     parameters: &[1, 2],
     arrays: &[],
 };
@@ -213,5 +242,27 @@ pub(crate) const FULL: Shape<'static> = Shape {
     ],
     banks: &BANKS,
     parameters: &[1],
+    arrays: &[],
+};
+
+/// if (!(v1 < 10)) return 2; v3 = v1 * v1; v4 = v3 * v3; v5 = v4 + 1; if (!(v2 < 10)) return v5; return v5. Both tests are made
+/// before the first is asked.
+pub(crate) const TWO_WAYS: Shape<'static> = Shape {
+    parts: &[
+        Part(&[TEST, SECOND_TEST], Way::Split(6, 1, 3)),
+        Part(
+            &[
+                Act::On(Code::Mpylu, 3, 1, Operand::Held(1)),
+                Act::On(Code::Mpylu, 4, 3, Operand::Held(3)),
+                Act::On(Code::Add, 5, 4, Operand::Number(1)),
+            ],
+            Way::Split(7, 2, 4),
+        ),
+        Part(&[], Way::Return(Operand::Held(5))),
+        Part(&[], Way::Return(Operand::Number(2))),
+        Part(&[], Way::Return(Operand::Held(5))),
+    ],
+    banks: &TWO_BRANCH_BANKS,
+    parameters: &[1, 2],
     arrays: &[],
 };

@@ -2,7 +2,8 @@
 
 use crate::passes::Passed;
 use crate::shapes::{
-    IN_LINE, PRINTING, SINKING, SUMS, SUMS_BEHIND_A_CALL, SUMS_TO_A_HOME, SUMS_TURNED,
+    IN_LINE, PRINTING, SINKING, SUMS, SUMS_BEHIND_A_CALL, SUMS_TO_A_HOME, SUMS_TURNED, TWO_TESTS,
+    TWO_WAYS,
 };
 use crate::steps_run::{Row, Wanted, is_so};
 use std::alloc::Global;
@@ -19,6 +20,8 @@ const ZERO_THREE: Edge = Edge { from: 0, to: 3 };
 const ZERO_TWO: Edge = Edge { from: 0, to: 2 };
 
 const THREE_TWO: Edge = Edge { from: 3, to: 2 };
+
+const ONE_FOUR: Edge = Edge { from: 1, to: 4 };
 
 /// Nine of ten times the test holds.
 const MOSTLY: Passed<'static> = Passed {
@@ -470,7 +473,171 @@ const TO_A_GIVEN_CLUSTER: Row<'static> = Row {
     made: &[],
 };
 
-const ROWS: [Row<'static>; 12] = [
+/// A block that returns a number: no operation, and no word.
+const RETURNS_IN_THREE: Wanted<'static> = Wanted {
+    blocks: &[3],
+    count: 0,
+    mode: Mode::Free,
+    clusters: &[],
+    ops: &[],
+    words: &[],
+    length: 0,
+    splits: &[],
+    rejoins: &[],
+    homes: &[],
+    used: 0,
+};
+
+const RETURNS_IN_FOUR: Wanted<'static> = Wanted {
+    blocks: &[4],
+    count: 0,
+    mode: Mode::Free,
+    clusters: &[],
+    ops: &[],
+    words: &[],
+    length: 0,
+    splits: &[],
+    rejoins: &[],
+    homes: &[],
+    used: 0,
+};
+
+/// Two splits stand in one word where a word has two branches.
+const IN_ONE_WORD: Row<'static> = Row {
+    shape: TWO_TESTS,
+    passed: NOTHING,
+    kind: Kind::TwoBranches,
+    cap: 4000,
+    plans: &[
+        Wanted {
+            blocks: &[0, 1, 2],
+            count: 0,
+            mode: Mode::Free,
+            clusters: &[0, 0, 0, 0],
+            ops: &[],
+            words: &[0, 0, 2, 2],
+            length: 3,
+            splits: &[(2, ZERO_THREE, &[], 0), (3, ONE_FOUR, &[], 0)],
+            rejoins: &[],
+            homes: &[],
+            used: 0,
+        },
+        RETURNS_IN_THREE,
+        RETURNS_IN_FOUR,
+    ],
+    made: &[],
+};
+
+/// Where it has one, the second split stands a word behind.
+const A_WORD_APART: Row<'static> = Row {
+    shape: TWO_TESTS,
+    passed: NOTHING,
+    kind: Kind::Vex,
+    cap: 4000,
+    plans: &[
+        Wanted {
+            blocks: &[0, 1, 2],
+            count: 0,
+            mode: Mode::Free,
+            clusters: &[0, 0, 0, 0],
+            ops: &[],
+            words: &[0, 0, 2, 3],
+            length: 4,
+            splits: &[(2, ZERO_THREE, &[], 0), (3, ONE_FOUR, &[], 0)],
+            rejoins: &[],
+            homes: &[],
+            used: 0,
+        },
+        RETURNS_IN_THREE,
+        RETURNS_IN_FOUR,
+    ],
+    made: &[],
+};
+
+/// Block 3 does nothing before it returns.
+const THEN_RETURNS: Wanted<'static> = Wanted {
+    blocks: &[3],
+    count: 0,
+    mode: Mode::Free,
+    clusters: &[],
+    ops: &[],
+    words: &[],
+    length: 0,
+    splits: &[],
+    rejoins: &[],
+    homes: &[],
+    used: 1,
+};
+
+/// Block 5 was made for the sum, and goes on to block 4.
+const COPIED_SUM: Wanted<'static> = Wanted {
+    blocks: &[5, 4],
+    count: 0,
+    mode: Mode::Free,
+    clusters: &[0],
+    ops: &[],
+    words: &[0],
+    length: 1,
+    splits: &[],
+    rejoins: &[],
+    homes: &[],
+    used: 1,
+};
+
+/// Both splits are ready in word 2, and a word has two. The sum is in word 4: it stood above the second alone, and is copied onto the
+/// edge of that one. Behind both the second product takes a cycle to land.
+const SUM_BETWEEN: Row<'static> = Row {
+    shape: TWO_WAYS,
+    passed: NOTHING,
+    kind: Kind::TwoBranches,
+    cap: 4000,
+    plans: &[
+        Wanted {
+            blocks: &[0, 1, 2],
+            count: 0,
+            mode: Mode::Free,
+            clusters: &[0, 0, 0, 0, 0, 0, 0],
+            ops: &[],
+            words: &[0, 0, 2, 0, 2, 4, 2],
+            length: 5,
+            splits: &[(2, ZERO_THREE, &[], 1), (6, ONE_FOUR, &[5], 1)],
+            rejoins: &[],
+            homes: &[],
+            used: 1,
+        },
+        THEN_RETURNS,
+        COPIED_SUM,
+    ],
+    made: &[ONE_FOUR],
+};
+
+/// The same with one branch in a word: the second split is a word behind the first, where the second product has landed.
+const SUM_BETWEEN_APART: Row<'static> = Row {
+    shape: TWO_WAYS,
+    passed: NOTHING,
+    kind: Kind::Vex,
+    cap: 4000,
+    plans: &[
+        Wanted {
+            blocks: &[0, 1, 2],
+            count: 0,
+            mode: Mode::Free,
+            clusters: &[0, 0, 0, 0, 0, 0, 0],
+            ops: &[],
+            words: &[0, 0, 2, 0, 2, 4, 3],
+            length: 5,
+            splits: &[(2, ZERO_THREE, &[], 1), (6, ONE_FOUR, &[5], 0)],
+            rejoins: &[],
+            homes: &[],
+            used: 1,
+        },
+        THEN_RETURNS,
+        COPIED_SUM,
+    ],
+    made: &[ONE_FOUR],
+};
+
+const ROWS: [Row<'static>; 16] = [
     FREE,
     BARRED,
     SUNK,
@@ -483,6 +650,10 @@ const ROWS: [Row<'static>; 12] = [
     ON_GIVEN_CLUSTERS,
     ON_TURNED_CLUSTERS,
     TO_A_GIVEN_CLUSTER,
+    IN_ONE_WORD,
+    A_WORD_APART,
+    SUM_BETWEEN,
+    SUM_BETWEEN_APART,
 ];
 
 fn first_wrong(alloc: Global) -> Result<usize, NoMemory> {
