@@ -2,6 +2,7 @@
 // search for what makes the turns of loops shorter.
 #![tactic(auto)]
 
+mod climb;
 mod costs;
 pub mod known;
 pub mod laws;

@@ -256,7 +256,7 @@ fn has_room(units: &Units, used: Used, step: &Step) -> bool {
         && more.alus <= units.alus
         && more.multipliers <= units.multipliers
         && more.memory_units <= units.memory_units
-        && more.splits <= 1
+        && more.splits <= units.branches
         && more.shown <= 1
 }
 

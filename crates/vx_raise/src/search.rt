@@ -2,9 +2,9 @@
 // put round the back edge, again and again, as long as that helps (rotation scheduling, Chao, LaPaugh and Sha, 1993). It owes nothing:
 // each move is tested when it is made.
 
+use crate::climb::{climb_all, end_of};
 use crate::costs::cost_of;
 use crate::known::Move;
-use crate::lift_test::result_of;
 use crate::names::{Names, Passing, names_of};
 use crate::plan::{Plan, number_at, plan_of};
 use crate::raised_flow::Wanted;
@@ -28,7 +28,7 @@ const MOST_IDLE: usize = 3;
 const MOST_MOVES: usize = 512;
 
 /// The most operations of a block beside the path, or where ways meet, that are raised.
-const MOST_BESIDE: usize = 16;
+pub(crate) const MOST_BESIDE: usize = 16;
 
 /// What is looked for: what shortens the ways beside the turns of loops, or the turns too.
 #[derive(Clone, Copy, PartialEq, Eq)]
@@ -511,84 +511,6 @@ fn carry(
     }
 }
 
-/// Raises what the next turn reads past splits both of whose ways have it. Answers whether there was something.
-fn climb_all(ground: &Ground, sketch: &mut Sketch, turn: &Turn) -> Result<bool, NoMemory> {
-    let start = sketch.count();
-    for row in 1..turn.path.len() {
-        climb_from(ground, sketch, turn.path.as_slice(), row)?;
-    }
-    Ok(sketch.count() > start)
-}
-
-fn climb_from(
-    ground: &Ground,
-    sketch: &mut Sketch,
-    path: &[BlockId],
-    row: usize,
-) -> Result<(), NoMemory> {
-    let count = match block_at(path, row) {
-        Some(block) => sketch.ops_at(block).len().min(MOST_BESIDE),
-        None => 0,
-    };
-    let mut place = 0usize;
-    for _ in 0..count {
-        let climbs = is_awaited(ground, sketch, path, row, place);
-        if !(climbs && climb(ground, sketch, path, row, place)?) {
-            place = place.saturating_add(1);
-        }
-    }
-    Ok(())
-}
-
-/// Whether an operation of a block of the path writes a value that is live at the header.
-fn is_awaited(
-    ground: &Ground,
-    sketch: &Sketch,
-    path: &[BlockId],
-    row: usize,
-    place: usize,
-) -> bool {
-    match (block_at(path, row), block_at(path, 0)) {
-        (Some(block), Some(header)) => match sketch.ops_at(block).get(place) {
-            Some(op) => match result_of(op) {
-                Some(value) => sketch.is_live(ground, header, value),
-                None => false,
-            },
-            None => false,
-        },
-        _ => false,
-    }
-}
-
-/// Raises an operation up the path, to before the highest split whose ways both have it then. Answers whether there is one.
-fn climb(
-    ground: &Ground,
-    sketch: &mut Sketch,
-    path: &[BlockId],
-    row: usize,
-    place: usize,
-) -> Result<bool, NoMemory> {
-    let start = sketch.count();
-    let mut kept = start;
-    let mut at = place;
-    for above in 0..row {
-        let here = row.saturating_sub(above);
-        let is_raised = match block_at(path, here) {
-            Some(block) => sketch.raise(ground, block, at)?,
-            None => false,
-        };
-        if !is_raised {
-            break;
-        }
-        if sketch.is_last_double() {
-            kept = sketch.count();
-        }
-        at = end_of(sketch, path, here.saturating_sub(1));
-    }
-    sketch.back_to(kept)?;
-    Ok(kept > start)
-}
-
 /// Raises an operation from block to block up the path, and from its first block too. Answers whether that went through.
 fn raise_along(
     ground: &Ground,
@@ -610,12 +532,4 @@ fn raise_along(
         at = end_of(sketch, path, row.saturating_sub(above).saturating_sub(1));
     }
     Ok(true)
-}
-
-/// The place of the last operation of a block of the path.
-fn end_of(sketch: &Sketch, path: &[BlockId], row: usize) -> usize {
-    match path.get(row) {
-        Some(block) => sketch.ops_at(*block).len().saturating_sub(1),
-        None => 0,
-    }
 }

@@ -46,11 +46,11 @@ impl Trial {
     }
 }
 
-/// Where the same operation stands in the other way of a split.
+/// Where the same operation stands in another block.
 #[derive(Clone, Copy)]
-struct Mate {
+pub(crate) struct Mate {
     block: BlockId,
-    place: usize,
+    pub(crate) place: usize,
     op: Op,
 }
 
@@ -196,7 +196,7 @@ impl Sketch {
     }
 
     /// The other way of the split that alone leads to a block, if nothing else leads there either.
-    fn other_way(&self, ground: &Ground, block: BlockId) -> Option<BlockId> {
+    pub(crate) fn other_way(&self, ground: &Ground, block: BlockId) -> Option<BlockId> {
         let source = single(self.leading_to(block))?;
         let other = match ground.graph.blocks.as_slice().get(source as usize) {
             Some(found) => match &found.exit {
@@ -210,7 +210,7 @@ impl Sketch {
     }
 
     /// The same operation in a block, if it may pass those before it there.
-    fn same_in(&self, ground: &Ground, block: BlockId, op: &Op) -> Option<Mate> {
+    pub(crate) fn same_in(&self, ground: &Ground, block: BlockId, op: &Op) -> Option<Mate> {
         let ops = self.ops_at(block);
         for (place, there) in ops.iter().enumerate() {
             if same_op(op, there) && passes(ground.graph.arrays.as_slice(), there, place, ops) {

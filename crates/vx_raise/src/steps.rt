@@ -4,8 +4,9 @@
 use crate::sketch::{Ground, Sketch};
 use crate::units::{Unit, Units, is_first, is_observable, unit_of};
 use std::alloc::Global;
+use vx_base::arithmetic::Code;
 use vx_base::outcome::NoMemory;
-use vx_flow::graph::{ArrayId, BlockId, Exit, Graph, Op, Value};
+use vx_flow::graph::{ArrayId, BlockId, Exit, Graph, Op, Operand, Value};
 use vx_flow::operands::{Reads, read_by, reads_three, written_by};
 
 /// What a step does besides reading and writing values.
@@ -50,9 +51,9 @@ fn effect_of(op: &Op) -> Effect {
     }
 }
 
-fn step_of(units: &Units, op: &Op, row: usize, place: usize, joins: u32) -> Step {
+fn step_of(units: &Units, op: &Op, read: Reads, row: usize, place: usize, joins: u32) -> Step {
     Step {
-        read: read_by(op),
+        read,
         written: written_by(op),
         latency: units.latency(op),
         unit: unit_of(op),
@@ -61,6 +62,58 @@ fn step_of(units: &Units, op: &Op, row: usize, place: usize, joins: u32) -> Step
         row,
         place,
         joins,
+    }
+}
+
+/// What an operation at a place of a block reads once moves before it there are read where they were moved from, as they are in the end;
+/// on one cluster, since elsewhere such a move may be what brings a value to another.
+fn read_by_step(units: &Units, ops: &[Op], place: usize, op: &Op) -> Reads {
+    let read = read_by(op);
+    if !units.is_one_cluster() {
+        return read;
+    }
+    reads_three(
+        source_of(ops, place, read.first),
+        source_of(ops, place, read.second),
+        source_of(ops, place, read.third),
+    )
+}
+
+/// The value that holds what a value holds before a place of a block: that from which it was moved, or itself.
+fn source_of(ops: &[Op], place: usize, read: Option<Value>) -> Option<Value> {
+    let value = read?;
+    let mut source = value;
+    for (index, op) in ops.iter().enumerate() {
+        if index < place {
+            source = source_behind(op, value, source);
+        }
+    }
+    Some(source)
+}
+
+/// The value that holds what a value holds behind an operation, before which it was the source.
+fn source_behind(op: &Op, value: Value, source: Value) -> Value {
+    if has(written_by(op), value) {
+        match moved_from(op) {
+            Some(from) => from,
+            None => value,
+        }
+    } else if has(written_by(op), source) {
+        value
+    } else {
+        source
+    }
+}
+
+/// The value that a move reads.
+fn moved_from(op: &Op) -> Option<Value> {
+    match op {
+        Op::Compute {
+            code: Code::Mov,
+            left: Operand::Held(from),
+            ..
+        } => Some(*from),
+        _ => None,
     }
 }
 
@@ -92,7 +145,8 @@ pub(crate) fn steps_of(
             joins = joins.saturating_add(1);
         }
         for (place, op) in sketch.ops_at(*block).iter().enumerate() {
-            steps.push(step_of(ground.units, op, index, place, joins))?;
+            let read = read_by_step(ground.units, sketch.ops_at(*block), place, op);
+            steps.push(step_of(ground.units, op, read, index, place, joins))?;
         }
         let place = sketch.ops_at(*block).len();
         match off_row(ground.graph, *block, block_at(row, index.saturating_add(1))) {
@@ -188,7 +242,7 @@ fn delay_by_effects(ground: &Ground, sketch: &Sketch, first: &Step, second: &Ste
         (Effect::Stores(array), Effect::Stores(other)) => some_if(array == other, 1),
         (Effect::Loads(array), Effect::Stores(other)) => some_if(array == other, 0),
         (Effect::Shows, Effect::Shows) => Some(1),
-        (Effect::Leaves(_), Effect::Leaves(_)) => Some(1),
+        (Effect::Leaves(_), Effect::Leaves(_)) => Some(ground.units.splits_apart()),
         (Effect::Leaves(_), Effect::Stores(_)) => Some(1),
         (Effect::Leaves(_), Effect::Shows) => Some(1),
         (Effect::Shows, Effect::Leaves(_)) => Some(0),

@@ -11,6 +11,8 @@ pub struct Units {
     pub slots: u32,
     /// Operations of a word that stand on the first cluster, as compares for splits do.
     pub first_slots: u32,
+    /// Splits of a word.
+    pub branches: u32,
     /// Units for sums, compares and the like.
     pub alus: u32,
     /// Units for products and quotients.
@@ -52,6 +54,16 @@ impl Units {
             Op::Load { .. } | Op::More { .. } | Op::Input { .. } => self.latency_load,
             Op::Store { .. } | Op::Text { .. } | Op::Decimal { .. } => 0,
         }
+    }
+
+    /// Whether all operations stand on one cluster, so that none is moved to another, which estimates leave out.
+    pub(crate) fn is_one_cluster(&self) -> bool {
+        self.slots == self.first_slots
+    }
+
+    /// By how many words a split stands behind one above it at least.
+    pub(crate) fn splits_apart(&self) -> u32 {
+        if self.branches > 1 { 0 } else { 1 }
     }
 
     fn latency_of(&self, code: Code) -> u32 {
