@@ -15,9 +15,11 @@ use Rattle.vx_flow.specs.Meaning.{graph_run}
 use Rattle.vx_flow.proofs.Entering.{globals_first}
 use Rattle.vx_flow.proofs.SoundFlowLaw.{flow_is}
 use Rattle.vx_isa.specs.declared.program.WordProgram.{WordProgram}
-use Rattle.vx_isa.specs.Machine.{words_run}
+use Rattle.vx_isa.specs.Fits.{fits}
+use Rattle.vx_isa.specs.Machine.{issuing_machine, words_run}
 use Rattle.vx_isa.specs.Numbers.{Numbers, IsMachine}
 use Rattle.vx_isa.specs.Paths.{PathStrict}
+use Rattle.vx_isa.proofs.IssuingMachine.{issuing_machine_own}
 use Rattle.vx_lower.specs.FlowOf.{FlowOf, AreNumbers}
 use Rattle.vx_machine.specs.Items.{latency_of_op}
 use Rattle.vx_mixed.specs.declared.mixed.MixedGraph.{MixedGraph}
@@ -207,7 +209,8 @@ module _ (laws : StageLaws) (p : Program) (flow : Flow) (machine : Numbers) (ls 
     pub compiled : (counts : Counts) (growth : ℕ) (traces : List TracePlan) (spilled copies : ℕ) (planned : Planned machine counts growth flow.functions traces copies) → ls ≡ layouts_of planned.functions → AreMapsOf machine ls maps →
         spilled ≡ all_in_slots maps → is_in_range w ≡ true → Compiled p counts machine growth w (record { traces = traces; places = x.places; spilled = spilled; copies = copies })
     compiled counts growth traces spilled copies planned are kept in_slots in_range =
-        let strict : PathStrict machine w = record { fit = keeps.fit; never_early = keeps.never_reads_early } in
+        let own : issuing_machine w machine ≡ machine = issuing_machine_own w machine finished.version in
+        let strict : PathStrict machine w = record { fit = λ p word at. subst (λ (m : Numbers). fits m word.ops ≡ true) (sym own) (keeps.fit p word at); never_early = keeps.never_reads_early } in
         let done : Finishes machine flow (layouts_of planned.functions) maps x = subst (λ z. Finishes machine flow z maps x) are all in
         record {
           flow = flow;
@@ -225,6 +228,7 @@ module _ (laws : StageLaws) (p : Program) (flow : Flow) (machine : Numbers) (ls 
           path_strict = strict;
           strict = laws.paths machine w strict;
           sound = all.finished.sound;
+          version = finished.version;
           in_range = in_range;
         }
 

@@ -93,6 +93,7 @@ fn units_of(machine: &Machine) -> Units {
     Units {
         slots: issue.saturating_mul(clusters),
         first_slots: issue,
+        branches: machine.branches(),
         alus: machine.alus().saturating_mul(clusters),
         multipliers: machine.multipliers().saturating_mul(clusters),
         memory_units: machine.memory_units().saturating_mul(clusters),
@@ -127,7 +128,25 @@ pub fn raised_for(
         return Ok(flow);
     }
     let narrowed = advanced_for(alloc, flow, &units)?;
-    let raised = raise(alloc, narrowed, counts, &units)?;
+    let once = raised_inside(alloc, narrowed, counts, &units)?;
+    if machine.clusters() > 1 {
+        return Ok(once);
+    }
+    raised_inside(alloc, once, counts, &units)
+}
+
+/// The graphs with operations raised, and narrowed inside of blocks behind that: what reads no move any more may be raised further.
+fn raised_inside(
+    alloc: Global,
+    flow: Flow,
+    counts: &Counts,
+    units: &Units,
+) -> Result<Flow, NoMemory>
+    requires { is_sound_flow flow ≡ true }
+    ensures sound { IfOk result (λ raised. is_sound_flow raised ≡ true) }
+    ensures flow { IfOk result (λ raised. (p : Program) → FlowOf p flow → FlowOf p raised) }
+{
+    let raised = raise(alloc, flow, counts, units)?;
     narrow_inside(alloc, raised)
 }
 

@@ -91,8 +91,9 @@ all_in_slots maps = sum_by (λ (x : RegMap). in_slots x.values) maps
 
 -- the program has graphs that do what it does, in the shape of their layer; the plan is that of these graphs, by these counts and
 -- with this cap on copies; the words are the finished program of its layouts, with values kept where the maps say, and carry the
--- regions of the plan at its places, and nothing else but words of the other kinds; they do what the program does, fit the machine, and on no path read a register early, and so in no run; and they are a program of words that the
--- word text spells: sound, with numbers of 32 bits and texts of bytes
+-- regions of the plan at its places, and nothing else but words of the other kinds; they do what the program does, fit the machine,
+-- and on no path read a register early, and so in no run; and they are a program of words that the word text spells: sound, of the
+-- version that is the number of the machine's branches, with numbers of 32 bits and texts of bytes
 pub record Compiled (p : Program) (counts : Counts) (m : Numbers) (growth : ℕ) (w : WordProgram) (plan : Plan) : Type 0 where
   pub flow : Flow
   pub flow_of : FlowOf p flow
@@ -106,4 +107,5 @@ pub record Compiled (p : Program) (counts : Counts) (m : Numbers) (growth : ℕ)
   pub path_strict : PathStrict m w
   pub strict : Strict m w
   pub sound : is_sound w ≡ true
+  pub version : w.version ≡ m.branches
   pub in_range : is_in_range w ≡ true
