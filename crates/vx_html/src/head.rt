@@ -151,6 +151,7 @@ fn put_times(page: &mut Page, machine: &Machine) {
     put_number(page, b"latency_load", machine.latency_load());
     put_number(page, b"latency_divide", machine.latency_divide());
     put_number(page, b"latency_copy", machine.latency_copy());
+    put_number(page, b"branches", machine.branches());
 }
 
 /// Puts the numbers of a machine.

@@ -145,7 +145,7 @@ pub enum Full {
     WritePorts,
     /// The copy paths of the machine.
     CopyPaths,
-    /// The one split of a word.
+    /// The splits of a word.
     Splits,
     /// The one operation of a word that reads the input or prints.
     Observable,
@@ -180,7 +180,7 @@ fn full_ports(machine: &Machine, load: Load) -> Full {
     if load.write_ports > machine.write_ports() {
         return Full::WritePorts;
     }
-    if load.splits > 1 {
+    if load.splits > machine.branches() {
         return Full::Splits;
     }
     if load.observable > 1 {
@@ -199,7 +199,7 @@ pub(crate) fn name_of_full(full: Full) -> &'static [u8] {
         Full::ReadPorts => b"all read ports",
         Full::WritePorts => b"all write ports",
         Full::CopyPaths => b"all copy paths",
-        Full::Splits => b"the one branch",
+        Full::Splits => b"all places for branches",
         Full::Observable => b"the one input or print",
         Full::Nothing => b"nothing",
     }

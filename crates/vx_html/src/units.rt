@@ -64,4 +64,7 @@ pub(crate) fn put_use(page: &mut Page, machine: &Machine, length: u32, loads: &[
             words,
         );
     }
+    if machine.branches() > 1 {
+        put_part(page, b"branches", total.splits, machine.branches(), words);
+    }
 }

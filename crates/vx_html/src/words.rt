@@ -162,6 +162,9 @@ fn put_units(page: &mut Page, shown: &Shown, load: &Load) {
         load.write_ports,
         shown.machine.write_ports(),
     );
+    if shown.machine.branches() > 1 {
+        put_used(page, b"branches", load.splits, shown.machine.branches());
+    }
     page.put(b"</small>");
 }
 

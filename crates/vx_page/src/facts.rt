@@ -196,6 +196,20 @@ fn passed_splits(splits: &[EdgeCopies], words: &[u32], place: u32, word: u32) ->
     found
 }
 
+/// The splits that an operation was moved above. A split passes none: beside another in one word it leaves where that one stays.
+fn passed_above(
+    splits: &[EdgeCopies],
+    words: &[u32],
+    place: u32,
+    word: u32,
+    op: &TraceOp,
+) -> Option<Passed> {
+    match op {
+        TraceOp::Plain(_) => passed_splits(splits, words, place, word),
+        TraceOp::Split { .. } => None,
+    }
+}
+
 /// What is told of the operation at a place, where these were told of the ones above it.
 fn fact_at(
     machine: &Machine,
@@ -211,7 +225,7 @@ fn fact_at(
     let words = trace.placed.words.as_slice();
     let word = word_at(words, number);
     let wait = wait_of(deps.earlier(number), facts);
-    let above_split = passed_splits(trace.splits, words, number, word);
+    let above_split = passed_above(trace.splits, words, number, word, op);
     OpFact {
         word,
         cluster: word_at(trace.placed.clustered.clusters.as_slice(), number),
