@@ -12,7 +12,7 @@ use Rattle.vx_flow.specs.declared.graph.Operand.TheVariants.{Held, Number, Stack
 use Rattle.vx_flow.specs.declared.graph.Op.{Op}
 use Rattle.vx_flow.specs.declared.graph.Op.TheVariants.{Compute, Select, Place, Load, Store, More, Input, Text, Decimal, Across, Base, PlaceIn}
 use Rattle.vx_flow.specs.Effects.{IsIn, is_unary, dismissed, value_in, reads, writes}
-use Rattle.vx_flow.specs.Sound.{HasOperation, operands_of, bank_written, IsAccess, loads, stores, Has, MakesPlace, by_itself, by_base, IsPlace, in_own, in_handed, ReadAsPlace, IsBase, given, made, IsMadeFrom, Sound, is_given, is_own as is_own_or_none, is_local, base_of, base_at, HasExit}
+use Rattle.vx_flow.specs.Sound.{HasOperation, operands_of, bank_written, IsAccess, loads, stores, Has, MakesPlace, by_itself, by_base, IsPlace, in_own, in_handed, ReadAsPlace, IsBase, given, made, IsMadeFrom, Sound, is_given, is_own as is_own_or_none, base_of, base_at, HasExit}
 use Rattle.vx_flow.specs.declared.graph.Exit.TheVariants.{Split as Branches}
 use Rattle.vx_flow.proofs.Members.{in_left, in_right}
 use Rattle.vx_flow.proofs.OperandLaws.{first_operand_in, second_operand_in}

@@ -3,7 +3,7 @@
 use Rattle.std.proofs.Common.{◌≡◌, ◌≢◌, ◌≤◌, ◌⊎◌, inl, inr, ⊎_elim, ◌+◌, ℕ, ℤ, Bool, true, false, ◌||◌, not, eqb, cond, Option, Some, None, List, [], ◌∷◌, ◌++◌, refl, sym, ap, ◌∙◌, subst, arith}
 use Rattle.std.specs.Prelude.{if◌then◌else◌, drop, count_by}
 use Rattle.std.specs.List.{list_any, flat_map}
-use Rattle.std.proofs.lemmas.Bool.{ne_eqb}
+use Rattle.std.proofs.lemmas.Bool.{ne_eqb, false≢true}
 use Rattle.std.proofs.lemmas.List.{append-nil}
 use Rattle.vx_flow.specs.declared.graph.Op.{Op}
 use Rattle.vx_flow.specs.Effects.{Content, State as VState, Setting, IsIn, is_one as is_one_there, effect, reads, writes}
@@ -11,6 +11,7 @@ use Rattle.vx_flow.proofs.Members.{in_right}
 use Rattle.vx_isa.specs.declared.operation.Register.{Register}
 use Rattle.vx_isa.specs.declared.operation.Register.TheVariants.{Branch}
 use Rattle.vx_isa.specs.declared.operation.Operation.{Operation}
+use Rattle.vx_isa.specs.declared.operation.Operation.TheVariants.{Goto}
 use Rattle.vx_isa.specs.declared.program.WordProgram.{WordProgram}
 use Rattle.vx_isa.specs.Operations.{is_zero, is_observable, destination_of}
 use Rattle.vx_isa.specs.Machine.{State, Lead, To, register, number_of, memory_after, takes_input, print_of, has_bad_address, lead_of, is_taken, is_left}
@@ -20,7 +21,7 @@ use Rattle.vx_mixed.specs.declared.layout.Laid.TheVariants.{Plain, Split}
 use Rattle.vx_mixed.specs.Meaning.{into, leaves_on, picked}
 use Rattle.vx_layout.specs.Laid.{laid_effect, laid_next}
 use Rattle.vx_mixed.specs.LaidSettled.{laid_reads, laid_writes}
-use Rattle.vx_target.specs.Target.{Target, branch_of, register_of, carried, carried_items, leads, slotted}
+use Rattle.vx_target.specs.Target.{Target, branch_of, register_of, carried, carried_items, leads, slotted, is_split}
 use Rattle.vx_target.specs.Tied.{Seating, Shows, HasCell, word_at}
 use Rattle.vx_target.proofs.Cells.{same_or_not, SameShape, shape_on}
 use Rattle.vx_target.proofs.Calm.{seen, put_to, put_at, put_off, given}
@@ -207,6 +208,18 @@ module _ (T : Target) (w : WordProgram) (f : ℕ) (here : Seating) (setting : Se
       ap (λ b. picked (Some b) None (Some to) (laid_next s next items)) (sym (taken_alike y z.0)) ∙ ap (λ x. picked (leaves_on x y) None (Some to) (laid_next s next items)) (sym z.1) ∙ e in
       subst (λ x. Went (Split test y to ∷ items) next q (if is_taken y x then To (leads T f p (slotted T f ws) to) else lead_of u (Ops items))) (sym at)
       (split_went test to y items next q (is_taken y z.0) took (λ h. lead_items items next q t t1 ran (right_right T f here IsArray rs s u (test ∷ []) (laid_reads items) right) proper.1 h))
+
+  -- without a split a word goes on, or where a goto behind its operations leads
+
+  pub goes_on : (items : List Laid) (next q : ℕ) → list_any is_split items ≡ false → laid_next s next items ≡ Some q → q ≡ next
+  goes_on [] next q h e = (let z : next ≡ q = cc in sym z)
+  goes_on (Plain op k ∷ items) next q h e = goes_on items next q h e
+  goes_on (Split test y to ∷ items) next q h e = absurd (false≢true (sym h))
+
+  pub goes_items : (items : List Laid) (t t1 : VState) (to : ℕ) → Ran items t t1 → list_any is_split items ≡ false → lead_of u (Ops items ++ Goto to ∷ []) ≡ To to
+  goes_items [] t t1 to ran h = refl
+  goes_items (Plain op k ∷ items) t t1 to ran h = ran.1.leads (Ops items ++ Goto to ∷ []) ∙ goes_items items ran.0 t1 to ran.2 h
+  goes_items (Split test y q ∷ items) t t1 to ran h = absurd (false≢true (sym h))
 
   -- input and output, where at most one operation meets them
 

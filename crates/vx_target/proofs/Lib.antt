@@ -2,6 +2,7 @@ pub mod Bytes
 pub mod Cells
 pub mod Calm
 pub mod Forms
+pub mod Beside
 pub mod ValueKinds
 pub mod Proper
 pub mod Reading

@@ -7,7 +7,6 @@ use Rattle.vx_flow.specs.declared.graph.Array.{Array}
 use Rattle.vx_flow.specs.Apart.{array_of, array_in}
 use Rattle.vx_flow.specs.Meaning.{undefined, words_before, words_in, own_of, spot_in}
 use Rattle.vx_flow.specs.Sound.{is_given, has_base, base_of, is_handed as is_handed_array}
-use Rattle.vx_flow.specs.Walk.{numbers}
 use Rattle.vx_flow.proofs.Entering.{behind}
 use Rattle.vx_target.specs.Target.{Target, is_handed}
 use Rattle.vx_target.specs.Given.{owned, Passes}

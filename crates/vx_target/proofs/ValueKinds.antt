@@ -1,10 +1,9 @@
 -- The kind of each value of a sound graph: of a place, of a base, and of what is neither.
-use Rattle.std.proofs.Common.{◌≡◌, inl, inr, ⊎_elim, ℕ, Bool, true, false, ◌&&◌, not, eqb, Option, Some, None, List, [], ◌∷◌, ◌++◌, refl, sym, ap, ◌∙◌, subst, arith}
+use Rattle.std.proofs.Common.{◌≡◌, inl, inr, ⊎_elim, ℕ, Bool, true, false, ◌&&◌, not, eqb, Option, Some, None, List, [], ◌∷◌, refl, sym, ap, ◌∙◌, subst}
 use Rattle.std.specs.Prelude.{if◌then◌else◌, slice_get}
 use Rattle.std.specs.List.{flat_map}
 use Rattle.std.proofs.lemmas.Bool.{eqb-true, eq-eqb, and_from, and_parts, false_from_ne_true}
 use Rattle.vx_flow.specs.declared.graph.Array.{Array}
-use Rattle.vx_flow.specs.declared.graph.Block.{Block}
 use Rattle.vx_flow.specs.declared.graph.Graph.{Graph}
 use Rattle.vx_flow.specs.declared.graph.Operand.{Operand}
 use Rattle.vx_flow.specs.declared.graph.Op.{Op}
@@ -14,7 +13,7 @@ use Rattle.vx_flow.specs.Sound.{is_given, is_own, is_local, is_handed, base_of, 
 use Rattle.vx_flow.proofs.Members.{in_left, in_right, in_either}
 use Rattle.vx_flow.proofs.SoundFlowLaw.{tested_base, base_tested}
 use Rattle.vx_flow.proofs.SoundLists.{any_in, any_of}
-use Rattle.vx_target.specs.Tied.{Kind, Itself, InFrame, InHanded, AsBase, places_own, has_own_place, is_own_place, placed_by_base, placed_in_block, handed_of, kind_by, value_kind}
+use Rattle.vx_target.specs.Tied.{Itself, InFrame, InHanded, AsBase, places_own, has_own_place, is_own_place, placed_by_base, placed_in_block, handed_of, kind_by, value_kind}
 
 -- lists of lists
 

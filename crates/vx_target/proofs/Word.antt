@@ -1,8 +1,9 @@
 -- The words of a planned word: slots are loaded, the word is issued, results in slots are stored.
 use Rattle.std.proofs.Common.{◌≡◌, ◌≢◌, ◌<◌, ◌≤◌, ◌⊎◌, inl, inr, ⊎_elim, ◌+◌, ◌*◌, ◌^◌, ℕ, suc, ℤ, pos, Bool, true, false, ◌&&◌, not, cond, Some, None, List, [], ◌∷◌, ◌++◌, length, refl, sym, ap, ◌∙◌, subst, arith}
-use Rattle.std.specs.Prelude.{if◌then◌else◌, slice_index_or, drop, count_by}
+use Rattle.std.specs.Prelude.{if◌then◌else◌, slice_get, slice_index_or, drop, count_by}
 use Rattle.std.specs.List.{list_any, flat_map}
 use Rattle.vx_flow.specs.Effects.{State as VState, Setting, IsIn}
+use Rattle.vx_isa.specs.declared.operation.Register.{Register}
 use Rattle.vx_isa.specs.declared.operation.Register.TheVariants.{General, Branch, Link}
 use Rattle.vx_isa.specs.declared.operation.Operation.{Operation}
 use Rattle.vx_isa.specs.declared.program.WordProgram.{WordProgram}
@@ -12,12 +13,14 @@ use Rattle.vx_isa.specs.Machine.{State, To, register, takes_input, print_of, lea
 use Rattle.vx_isa.proofs.FitsLaw.{fits_in_words}
 use Rattle.vx_mixed.specs.declared.layout.Laid.{Laid}
 use Rattle.vx_mixed.specs.declared.layout.Laid.TheVariants.{Split}
+use Rattle.vx_mixed.specs.declared.layout.VirtualWord.TheVariants.{Transfer}
 use Rattle.vx_layout.specs.Laid.{laid_effect}
 use Rattle.vx_mixed.specs.LaidSettled.{laid_reads, laid_writes}
 use Rattle.vx_regs.specs.declared.map.Kept.{Kept}
 use Rattle.vx_regs.specs.declared.map.Kept.TheVariants.{InRegister, InSlot, Nowhere}
-use Rattle.vx_target.specs.Target.{Target, answer, general, stack_on, kept, is_slotted, number_by, scratch, home, holds_branch, register_of, slotted, before, behind, plan_word, plan_words, past, landing_words, memory_words, is_handed}
+use Rattle.vx_target.specs.Target.{Target, answer, general, stack_on, kept, is_slotted, carried_items, number_by, scratch, home, holds_branch, register_of, slotted, before, behind, plan_word, plan_words, past, landing_words, memory_words, is_handed}
 use Rattle.vx_target.specs.Tied.{Seating, Itself, IsShown, Shows, HasCell, kind_of, holds, begins_at, word_at, row_in}
+use Rattle.vx_target.proofs.Beside.{Alike, alike, beside}
 use Rattle.vx_target.proofs.Calm.{seen, given, after, AllFit, Fine}
 use Rattle.vx_target.proofs.Proper.{itself, ProperItems}
 use Rattle.vx_target.proofs.Reading.{Right}
@@ -127,11 +130,18 @@ module _ (m : Numbers) (w : WordProgram) (fit : AllFit m w) (T : Target) (f : �
     pub slots_not : (y : ℕ) → is_slotted (kept T f v) ≡ true → IsIn y (slotted T f Writes) → T.slot f v ≢ T.slot f y
     pub arrays_not : (k i : ℕ) → is_slotted (kept T f v) ≡ true → Cell k i → here.frame + T.slot f v ≢ here.seats k + i
 
+  -- a place to which a planned word leads: where the words of a place of the layout begin, or where it leads past transfers, one of
+  -- which may stand there itself
+  pub data IsAt (q place : ℕ) : Type 0 where
+    there : place ≡ T.starts f q → IsAt q place
+    past_it : place ≡ T.starts f (past T f q) → IsAt q place
+    beyond : (to : ℕ) → slice_get (T.layout f).words q ≡ Some (Transfer to) → place ≡ T.starts f (past T f to) → IsAt q place
+
   -- what a planned word comes to
   pub record Arrived (t : VState) (q : ℕ) : Type 0 where
     pub to : State
     pub forth : Forth m w fit u to
-    pub place : (to.place ≡ T.starts f q) ⊎ (to.place ≡ T.starts f (past T f q))
+    pub place : IsAt q to.place
     pub calm : to.flying ≡ []
     pub input : to.input ≡ t.input
     pub out : to.out ≡ t.out
@@ -195,8 +205,14 @@ module _ (m : Numbers) (w : WordProgram) (fit : AllFit m w) (T : Target) (f : �
       pub ran : Ran T w f here setting IsArray Reads Writes s First p items s t
       ran = ran_items T w f here setting IsArray Reads Writes s First p ready items s t right h.proper (record { count = refl; each = λ k. refl }) done
 
-      few : count_by is_observable CodeOf ≤ 1
-      few = ((fits_in_words m CodeOf).0 (fit First.place (plan_word T f p items) rest_stands.0).1).observable
+      abbrev Carried : List Operation
+      Carried = carried_items T f p Reads Writes items
+
+      same : Alike w First CodeOf Carried
+      same = alike T f p items w First CodeOf (beside T f p items)
+
+      few : count_by is_observable Carried ≤ 1
+      few = let a = ((fits_in_words m CodeOf).0 (fit First.place (plan_word T f p items) rest_stands.0).1).observable in let b = same.observed_same in omega arith
 
       pub met : Met T w f here setting IsArray Reads Writes s First p items t
       met = met_items T w f here setting IsArray Reads Writes s First p items s t ran few refl refl
@@ -207,19 +223,25 @@ module _ (m : Numbers) (w : WordProgram) (fit : AllFit m w) (T : Target) (f : �
 
       pub fine : Fine m w First CodeOf
       fine = record {
-        addresses = bad_items T w f here setting IsArray Reads Writes s First p items s t ran;
-        input = fine_input (list_any takes_input CodeOf) (takes_items T w f here setting IsArray Reads Writes s First p items s t ran);
+        addresses = same.bad_same ∙ bad_items T w f here setting IsArray Reads Writes s First p items s t ran;
+        input = fine_input (list_any takes_input CodeOf) (λ e. takes_items T w f here setting IsArray Reads Writes s First p items s t ran (sym same.any_taken ∙ e));
       }
 
       -- the state after the word itself, which leads to a place
       abbrev pub Second : ℕ → State
       Second to = after w First (plan_word T f p items) to
 
+      named_same : (r : Register) → seen (given First w.memory CodeOf First.registers) r ≡ seen (given First w.memory Carried First.registers) r
+      named_same r = ap (λ g. seen g r) (same.given_same First.registers)
+
+      stored_same : (x : ℕ) → word_at (memory_after First CodeOf First.memory) x ≡ word_at (memory_after First Carried First.memory) x
+      stored_same x = ap (λ g. word_at g x) (same.memory_same First.memory)
+
       pub second_forth : (to : ℕ) → lead_of First CodeOf ≡ To to → Forth m w fit u (Second to)
       second_forth to e = then_forth m w fit u First (Second to) loaded.comes (word_step m w fit First (plan_word T f p items) to loaded.quiet.calm rest_stands.0 fine e)
 
       pub second_stack : (to k : ℕ) → k < T.machine.clusters → register (Second to) (General (stack_on k)) ≡ pos (4 * here.frame)
-      second_stack to k lt = stays_items T w f here setting IsArray Reads Writes s First p (General (stack_on k)) items s t First.registers ran (λ y i e. (h.writes_usable y i).not_stack k (sym e)) ∙ stack_first k lt
+      second_stack to k lt = named_same (General (stack_on k)) ∙ stays_items T w f here setting IsArray Reads Writes s First p (General (stack_on k)) items s t First.registers ran (λ y i e. (h.writes_usable y i).not_stack k (sym e)) ∙ stack_first k lt
 
       -- once its results in slots are stored
       module _ (to : ℕ) (last : Stored m w fit T f here.frame size small some Writes (Second to) (slotted T f Writes) (length (behind T f items))) where
@@ -230,7 +252,7 @@ module _ (m : Numbers) (w : WordProgram) (fit : AllFit m w) (T : Target) (f : �
         written_then v n i e = by (is_slotted (kept T f v)) refl
           where
             good : Shows T here f v n (seen (given First w.memory CodeOf First.registers) (register_of T f Writes v))
-            good = values_items T w f here setting IsArray Reads Writes s First p v items s t First.registers ran (h.writes_usable v i).not_zero (λ y j ne. h.writes_apart v y i j (λ q. ne (sym q))) (inr i) n e
+            good = subst (λ x. Shows T here f v n x) (sym (named_same (register_of T f Writes v))) (values_items T w f here setting IsArray Reads Writes s First p v items s t First.registers ran (h.writes_usable v i).not_zero (λ y j ne. h.writes_apart v y i j (λ q. ne (sym q))) (inr i) n e)
 
             by : (b : Bool) → is_slotted (kept T f v) ≡ b → Shows T here f v n (if b then word_at last.to.memory (here.frame + T.slot f v) else register last.to (register_of T f (v ∷ []) v))
             by true q = subst (λ x. Shows T here f v n x) (sym (last.at v (slotted_in T f v Writes i q))) (kept_shows T here f v n _ (h.branch_plain v) good)
@@ -242,31 +264,35 @@ module _ (m : Numbers) (w : WordProgram) (fit : AllFit m w) (T : Target) (f : �
             by : (b : Bool) → is_slotted (kept T f v) ≡ b → Shows T here f v n (if b then word_at u.memory (here.frame + T.slot f v) else register u (register_of T f (v ∷ []) v)) → Shows T here f v n (if b then word_at last.to.memory (here.frame + T.slot f v) else register last.to (register_of T f (v ∷ []) v))
             by true q g = subst (λ x. Shows T here f v n x) (sym (
                 last.elsewhere (here.frame + T.slot f v) (λ y j e. free.slots_not y q j (omega arith))
+                ∙ stored_same (here.frame + T.slot f v)
                 ∙ elsewhere_items T w f here setting IsArray Reads Writes s First p (here.frame + T.slot f v) items s t First.memory ran (λ k i has. free.arrays_not k i q has)
                 ∙ ap (λ z. word_at z (here.frame + T.slot f v)) loaded.memory)) g
             by false q g = subst (λ x. Shows T here f v n x) (sym (
                 last.others (register_of T f (v ∷ []) v) (free.answer_not q)
+                ∙ named_same (register_of T f (v ∷ []) v)
                 ∙ stays_items T w f here setting IsArray Reads Writes s First p (register_of T f (v ∷ []) v) items s t First.registers ran (λ y i. free.writes_not y q i)
                 ∙ loaded.others (register_of T f (v ∷ []) v) (λ y j. free.reads_not y q j) (free.answer_not q))) g
 
         pub arrays_then : (k i : ℕ) (n : ℤ) → Cell k i → slice_index_or (row_in t.arrays k) i None ≡ Some n → word_at last.to.memory (here.seats k + i) ≡ n
         arrays_then k i n has e =
             last.elsewhere (here.seats k + i) (λ v j q. h.slots_free v k i j has (sym q))
+            ∙ stored_same (here.seats k + i)
             ∙ rows_items T w f here setting IsArray Reads Writes s First p items s t First.memory ran ready.start k i n has e
 
         pub elsewhere_then : (x : ℕ) → ((k i : ℕ) → Cell k i → x ≢ here.seats k + i) → ((v : ℕ) → IsIn v (slotted T f Writes) → x ≢ here.frame + T.slot f v) → word_at last.to.memory x ≡ word_at u.memory x
-        elsewhere_then x free slots = last.elsewhere x slots ∙ elsewhere_items T w f here setting IsArray Reads Writes s First p x items s t First.memory ran free ∙ ap (λ z. word_at z x) loaded.memory
+        elsewhere_then x free slots = last.elsewhere x slots ∙ stored_same x ∙ elsewhere_items T w f here setting IsArray Reads Writes s First p x items s t First.memory ran free ∙ ap (λ z. word_at z x) loaded.memory
 
-        pub arrived : (q : ℕ) → lead_of First CodeOf ≡ To to → (v : State) → Comes m w fit last.to v → v.registers ≡ last.to.registers → v.memory ≡ last.to.memory → Quiet last.to v → (v.place ≡ T.starts f q) ⊎ (v.place ≡ T.starts f (past T f q)) → Arrived t q
+        pub arrived : (q : ℕ) → lead_of First CodeOf ≡ To to → (v : State) → Comes m w fit last.to v → v.registers ≡ last.to.registers → v.memory ≡ last.to.memory → Quiet last.to v → IsAt q v.place → Arrived t q
         arrived q lead v comes regs mem quiet place = record {
           to = v;
           forth = forth_on m w fit u (Second to) v (second_forth to lead) (comes_on m w fit (Second to) last.to v last.comes comes);
           place = place;
           calm = quiet.calm;
-          input = quiet.input ∙ last.quiet.input ∙ ap (drop (count_by takes_input CodeOf)) (loaded.quiet.input ∙ h.input) ∙ sym met.input;
-          out = quiet.out ∙ last.quiet.out ∙ ap (λ ys. ys ++ flat_map (print_of w First) CodeOf) (loaded.quiet.out ∙ h.out) ∙ sym met.out;
+          input = quiet.input ∙ last.quiet.input ∙ ap (drop (count_by takes_input CodeOf)) (loaded.quiet.input ∙ h.input) ∙ ap (λ n. drop n s.input) same.taken_same ∙ sym met.input;
+          out = quiet.out ∙ last.quiet.out ∙ ap (λ ys. ys ++ flat_map (print_of w First) CodeOf) (loaded.quiet.out ∙ h.out) ∙ ap (λ ys. s.out ++ ys) same.printed_same ∙ sym met.out;
           stack = λ k lt. ap (λ g. seen g (General (stack_on k))) regs ∙ last.others (General (stack_on k)) (stack_no_answer k) ∙ second_stack to k lt;
           link = ap (λ g. seen g Link) regs ∙ last.others Link (link_no_general answer)
+              ∙ named_same Link
               ∙ stays_items T w f here setting IsArray Reads Writes s First p Link items s t First.registers ran (λ y i. link_unnamed T f Writes y)
               ∙ loaded.others Link (λ y i. link_unnamed T f Reads y) (link_no_general answer);
           written = λ y n i e. on y n (written_then y n i e);

@@ -235,8 +235,72 @@ carried_items T f p rs ws [] = []
 carried_items T f p rs ws (Plain op k ∷ items) = carried T f rs ws k op ∷ carried_items T f p rs ws items
 carried_items T f p rs ws (Split test y q ∷ items) = BranchOn (branch_of T f rs test) y (leads T f p (slotted T f ws) q) ∷ carried_items T f p rs ws items
 
+abbrev pub is_none : List ℕ → Bool
+is_none [] = true
+is_none (v ∷ vs) = false
+
+-- a word of empty cycles
+abbrev pub is_drain : VirtualWord → Bool
+is_drain (Planned r w items) = false
+is_drain (Drain n) = true
+is_drain (Transfer q) = false
+is_drain (Choice test q) = false
+is_drain (Calls g arguments result) = false
+is_drain (Returns x) = false
+is_drain (Ends k) = false
+
+abbrev pub is_drain_there : Option VirtualWord → Bool
+is_drain_there None = false
+is_drain_there (Some word) = is_drain word
+
+-- a place of a layout can follow at once: it is the next one, and no empty cycles stand there, so that they never stand behind a
+-- pause
+abbrev pub follows : Target → (function following to : ℕ) → Bool
+follows T f next q = (next == q) && not (is_drain_there (slice_get (T.layout f).words q))
+
+abbrev pub is_split : Laid → Bool
+is_split (Plain op k) = false
+is_split (Split test y q) = true
+
+-- where a word of a layout goes by a word of its own: a transfer to a place that cannot follow at once
+abbrev pub turn_of : Target → (function place : ℕ) → VirtualWord → Option ℕ
+turn_of T f p (Planned r w items) = None
+turn_of T f p (Drain n) = None
+turn_of T f p (Transfer q) = if follows T f (p + 1) (past T f q) then None else Some (past T f q)
+turn_of T f p (Choice test q) = None
+turn_of T f p (Calls g arguments result) = None
+turn_of T f p (Returns x) = None
+turn_of T f p (Ends k) = None
+
+abbrev pub turn_there : Target → (function place : ℕ) → Option VirtualWord → Option ℕ
+turn_there T f p None = None
+turn_there T f p (Some word) = turn_of T f p word
+
+abbrev pub turn : Target → (function place : ℕ) → Option ℕ
+turn T f p = turn_there T f p (slice_get (T.layout f).words p)
+
+-- the word at a place goes to another one by a word of its own
+abbrev pub is_turn : Option ℕ → Bool
+is_turn None = false
+is_turn (Some q) = true
+
+abbrev pub turns : Target → (function place : ℕ) → Bool
+turns T f p = is_turn (turn T f p)
+
+-- a planned word can go on by itself: it has no split, leaves nothing for slots, and the machine has room for the goto beside its operations
+abbrev pub goes_beside : Target → (function : ℕ) → List Laid → List Operation → Bool
+goes_beside T f items ops = not (list_any is_split items) && (is_none (slotted T f (laid_writes items)) && fits T.machine ops)
+
+-- the goto that would be the next word stands in the planned word itself, where it can
+abbrev pub with_goto : Target → (function : ℕ) → List Laid → List Operation → (turn : Option ℕ) → List Operation
+with_goto T f items ops None = ops
+with_goto T f items ops (Some q) = if goes_beside T f items (ops ++ Goto (T.starts f q) ∷ []) then ops ++ Goto (T.starts f q) ∷ [] else ops
+
+abbrev pub plan_ops : Target → (function place : ℕ) → List Laid → List Operation
+plan_ops T f p items = with_goto T f items (carried_items T f p (laid_reads items) (laid_writes items) items) (turn T f (p + 1))
+
 abbrev pub plan_word : Target → (function place : ℕ) → List Laid → Word
-plan_word T f p items = record { ops = carried_items T f p (laid_reads items) (laid_writes items) items; idle = 0 }
+plan_word T f p items = record { ops = plan_ops T f p items; idle = 0 }
 
 -- slots
 
@@ -367,10 +431,6 @@ cluster_of_operand T f Stack = 0
 abbrev pub passes : Target → (function called parameter : ℕ) → Operand → Operation
 passes T f g v a = Store (cluster_of_operand T f a) (bytes (T.slot g v)) (stack_on (cluster_of_operand T f a)) (fetched T f a)
 
-abbrev pub is_none : List ℕ → Bool
-is_none [] = true
-is_none (v ∷ vs) = false
-
 -- the last argument is stored in the word of the call, where the machine has room for both: a store is there by the next word
 abbrev pub calls_beside : Target → (called : ℕ) → (more : List ℕ) → Operation → Bool
 calls_beside T g more store = is_none more && fits T.machine (store ∷ Call (T.entry g) ∷ [])
@@ -435,25 +495,6 @@ leave_words T f x = if is_caller T f then answer_words T f x ++ one Return ∷ [
 abbrev pub return_words : Target → ℕ → Operand → List Word
 return_words T f x = fetch_words T f 0 x ++ leave_words T f x
 
--- a word of empty cycles
-abbrev pub is_drain : VirtualWord → Bool
-is_drain (Planned r w items) = false
-is_drain (Drain n) = true
-is_drain (Transfer q) = false
-is_drain (Choice test q) = false
-is_drain (Calls g arguments result) = false
-is_drain (Returns x) = false
-is_drain (Ends k) = false
-
-abbrev pub is_drain_there : Option VirtualWord → Bool
-is_drain_there None = false
-is_drain_there (Some word) = is_drain word
-
--- a place of a layout can follow at once: it is the next one, and no empty cycles stand there, so that they never stand behind a
--- pause
-abbrev pub follows : Target → (function following to : ℕ) → Bool
-follows T f next q = (next == q) && not (is_drain_there (slice_get (T.layout f).words q))
-
 -- the way to a place of a layout, where another one is next: none where it can follow at once
 abbrev pub way : Target → (function following to : ℕ) → List Word
 way T f next q = if follows T f next q then [] else one (Goto (T.starts f q)) ∷ []
@@ -492,18 +533,19 @@ is_for_values Link = false
 abbrev pub spares : Target → ℕ → Register → List Laid → Bool
 spares T f r items = is_for_values r && list_all (item_elsewhere T f r) items
 
-abbrev pub is_split : Laid → Bool
-is_split (Plain op k) = false
-is_split (Split test y q) = true
-
 -- by a word of its own, if it needs one, to a place from which on there is so much time
 abbrev pub by_way : Target → (function following to cycles : ℕ) → ℕ
 by_way T f next q n = if follows T f next q then n else suc n
 
+-- the goto of a place may stand in the word in front of it
+abbrev pub beside_turn : (turns : Bool) → (cycles : ℕ) → ℕ
+beside_turn true n = n - 1
+beside_turn false n = n
+
 -- the same at a word of a layout, by what there is from other places on
 abbrev pub spared_at : Target → (function : ℕ) → Register → (place : ℕ) → (ℕ → ℕ) → Option VirtualWord → ℕ
 spared_at T f r p on None = 0
-spared_at T f r p on (Some (Planned region w items)) = if spares T f r items then (if list_any is_split items then 1 else suc (on (p + 1))) else 0
+spared_at T f r p on (Some (Planned region w items)) = if spares T f r items then (if list_any is_split items then 1 else suc (beside_turn (turns T f (p + 1)) (on (p + 1)))) else 0
 spared_at T f r p on (Some (Drain n)) = 0
 spared_at T f r p on (Some (Transfer q)) = by_way T f (p + 1) (past T f q) (on (past T f q))
 spared_at T f r p on (Some (Choice test q)) = 0
@@ -561,23 +603,6 @@ begin_words T g = load_slots T g (T.brought g) (T.brought g) ++ link_words T g
 -- the first word of the layout follows
 abbrev pub entry_words : Target → ℕ → List Word
 entry_words T g = (begin_words T g ++ pause (wanted T g (Some 0) (past T g (T.layout g).entry) (T.brought g) (begin_words T g))) ++ way T g 0 (past T g (T.layout g).entry)
-
--- the word at a place goes to another one by a word of its own
-abbrev pub turns_word : Target → (function place : ℕ) → VirtualWord → Bool
-turns_word T f p (Planned r w items) = false
-turns_word T f p (Drain n) = false
-turns_word T f p (Transfer q) = not (follows T f (p + 1) (past T f q))
-turns_word T f p (Choice test q) = false
-turns_word T f p (Calls g arguments result) = false
-turns_word T f p (Returns x) = false
-turns_word T f p (Ends k) = false
-
-abbrev pub turns_there : Target → (function place : ℕ) → Option VirtualWord → Bool
-turns_there T f p None = false
-turns_there T f p (Some word) = turns_word T f p word
-
-abbrev pub turns : Target → (function place : ℕ) → Bool
-turns T f p = turns_there T f p (slice_get (T.layout f).words p)
 
 -- empty cycles, of which a goto behind them is the last one: it reads nothing
 abbrev pub idle_words : Target → (function place cycles : ℕ) → List Word
