@@ -44,10 +44,11 @@ use Rattle.vx_mixed.specs.declared.layout.VirtualWord.TheVariants.{Planned, Drai
 use Rattle.vx_mixed.specs.declared.layout.VWords.{VWords}
 use Rattle.vx_mixed.specs.LaidSettled.{bank_in, laid_reads, laid_writes, Plans}
 use Rattle.vx_regs.specs.Intervals.{IsBusy, is_live, is_named, word_reads, word_writes}
-use Rattle.vx_target.specs.Target.{Target, answer, general, general_of, branch_of, stack_on, home, holds_branch, is_branch, is_slotted, kept, slotted, parameters_of, one, together, waits, pause, in_flight, settled, on_clusters, stack_steps, leave_or_lower, set_stack, slots_in_flight, load_slot, store_slot, load_slots, store_slots, if_some, once, before, behind, plan_word, plan_words, past, landing_words, move_stack, save_words, reload_words, fetch_words, fetched, cluster_of_operand, passes, calls_beside, store_or_call, argument_words, result_words, call_words, back_words, is_caller, answer_words, last_beside, leave_words, return_words, follows, way, link_words, begin_words, wanted, entry_words, turns, idle_words, word_words, start_words, bytes, first_frame}
+use Rattle.vx_target.specs.Target.{Target, answer, general, general_of, branch_of, stack_on, home, holds_branch, is_branch, is_slotted, kept, slotted, parameters_of, one, together, waits, pause, in_flight, settled, on_clusters, stack_steps, leave_or_lower, set_stack, slots_in_flight, load_slot, store_slot, load_slots, store_slots, if_some, once, before, behind, plan_ops, plan_word, plan_words, past, landing_words, move_stack, save_words, reload_words, fetch_words, fetched, cluster_of_operand, passes, calls_beside, store_or_call, argument_words, result_words, call_words, back_words, is_caller, answer_words, last_beside, leave_words, return_words, follows, way, link_words, begin_words, wanted, entry_words, turns, idle_words, word_words, start_words, bytes, first_frame}
 use Rattle.vx_target.specs.Placed.{Depth, Labelled, laid_pieces, landing_of, item_landings, word_landings, landing_pieces, function_pieces, functions_pieces, all_pieces, words_of}
 use Rattle.vx_target.specs.Carried.{Carries, IsFunctionOf, IsMapped, item_of_laid, WordsFit}
 use Rattle.vx_tie.specs.Fitted.{FitLaw}
+use Rattle.vx_target.proofs.Beside.{beside}
 use Rattle.vx_target.proofs.FromPlace.{StandFrom, stand_here, stand_on, stand_from_start}
 use Rattle.vx_target.proofs.Frames.{get_some, get_in}
 use Rattle.vx_target.proofs.FromGraph.{whole_bank, has_whole, op_proper, test_proper}
@@ -437,7 +438,7 @@ module _ (T : Target) (flow : Flow) (ls : List VWords) (w : WordProgram) (sound 
 
       planned_good : Words (plan_words T f p items)
       planned_good = good_append M (before T f (laid_reads items)) (plan_word T f p items ∷ behind T f items) (before_good f (laid_reads items) read_named)
-          (plan_good T f mapped graph_sound IsArray p items plans proper banks l by_room, behind_good f items write_named)
+          (plan_good T f mapped graph_sound IsArray p items plans proper banks l by_room (plan_ops T f p items) (beside T f p items), behind_good f items write_named)
 
       landing_good : (q : ℕ) → Words (landing_words T f items q)
       landing_good q = good_append M (behind T f items) (one (Goto (T.starts f (past T f q))) ∷ []) (behind_good f items write_named) (goto_good (T.starts f (past T f q)), tt)

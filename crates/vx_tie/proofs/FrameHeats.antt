@@ -24,10 +24,11 @@ use Rattle.vx_mixed.specs.declared.layout.VirtualWord.TheVariants.{Planned, Drai
 use Rattle.vx_mixed.specs.declared.layout.VWords.{VWords}
 use Rattle.vx_mixed.specs.LaidSettled.{laid_reads, laid_writes, LeadsTo, LeavesCold}
 use Rattle.vx_regs.specs.Intervals.{word_writes}
-use Rattle.vx_target.specs.Target.{Target, slotted, register_of, most_transfers, past, leads, before, behind, plan_word, plan_words, landing_words, choice_words, return_words, follows, way, turns_there, turns, idle_words, entry_words, start_words, word_words, one, waits, pause, slots_in_flight, is_drain_there, spared_at, spared, most_spared}
+use Rattle.vx_target.specs.Target.{Target, slotted, register_of, most_transfers, past, leads, before, behind, plan_word, plan_words, landing_words, choice_words, return_words, follows, way, turn_there, is_turn, turns, beside_turn, idle_words, entry_words, start_words, word_words, one, waits, pause, slots_in_flight, is_drain_there, spared_at, spared, most_spared}
 use Rattle.vx_target.specs.Placed.{Label, Start, Entry, At, Landing, Depth, Labelled, laid_pieces, landing_of, item_landings, word_landings, landing_pieces, function_pieces, functions_pieces, all_pieces}
 use Rattle.vx_target.specs.Carried.{Carries, IsMapped}
 use Rattle.vx_tie.specs.Fitted.{NeverEarlyLaw}
+use Rattle.vx_target.proofs.Beside.{Going}
 use Rattle.vx_target.proofs.FromPlace.{StandFrom, stand_here, stand_on, stand_from_start}
 use Rattle.vx_target.proofs.Frames.{get_beyond, get_some, get_in, past_keeps, past_below}
 use Rattle.vx_target.proofs.Limits.{Limits, limits}
@@ -63,13 +64,13 @@ turned T f p h = by (slice_get (T.layout f).words p) refl h
     never : false ≡ true → Turned T f p
     never e = absurd (cc)
 
-    by : (o : Option VirtualWord) → slice_get (T.layout f).words p ≡ o → turns_there T f p o ≡ true → Turned T f p
+    by : (o : Option VirtualWord) → slice_get (T.layout f).words p ≡ o → is_turn (turn_there T f p o) ≡ true → Turned T f p
     by None e t = never t
     by (Some (Planned r w items)) e t = never t
     by (Some (Drain n)) e t = never t
     by (Some (Transfer q)) e t = record { to = q; at = e; turns_off = not_true (follows T f (p + 1) (past T f q)) t }
       where
-        not_true : (b : Bool) → not b ≡ true → b ≡ false
+        not_true : (b : Bool) → is_turn (if b then None else Some (past T f q)) ≡ true → b ≡ false
         not_true true k = absurd (cc)
         not_true false k = refl
     by (Some (Choice test q)) e t = never t
@@ -295,6 +296,12 @@ module _ (T : Target) (flow : Flow) (ls : List VWords) (w : WordProgram) (sound 
             let b = lift_same (slots_in_flight T f items) (Pend f to) (H to) (map (register_of T f (laid_writes items)) (slotted T f (laid_writes items))) r (k.same to r) in
             let c : lift (slots_in_flight T f items) (H to) (map (register_of T f (laid_writes items)) (slotted T f (laid_writes items))) r ≡ lift (slots_in_flight T f items) (H to) (map (register_of T f (laid_writes items)) (v ∷ vs)) r = ap (λ us. lift (slots_in_flight T f items) (H to) (map (register_of T f (laid_writes items)) us) r) s in omega arith
 
+    -- and so does a goto in it: nothing is in flight at a transfer
+    goto_there : (p : ℕ) (items : List Laid) (d : ℕ) → Going T f p items d → (r : Register) → H (suc p) r ≤ heat (T.starts f d) r
+    goto_there p items d g r =
+        let z : p + 1 ≡ suc p = omega arith in
+        let a = cold_here (suc p) (Transfer g.to) (subst (λ n. WordAt f n (Transfer g.to)) z g.transfer) tt r in omega arith
+
     -- registers that the words there spare may be in flight besides
 
     spared_at_start : (n more q : ℕ) (r : Register) (word : VirtualWord) → n + more ≡ most_spared → WordAt f q word → HasFirst (word_words T f q word) → spared T f r n q ≤ heat (T.starts f q) r
@@ -331,12 +338,37 @@ module _ (T : Target) (flow : Flow) (ls : List VWords) (w : WordProgram) (sound 
         by (Some (Returns x)) z on = omega arith
         by (Some (Ends j)) z on = omega arith
 
+    few_more : 15 + 1 ≡ most_spared
+    few_more = sym most_more
+
+    fewer_more : 14 + 2 ≡ most_spared
+    fewer_more = sym most_more
+
     -- at the next place
     spared_next : (n more p : ℕ) (word : VirtualWord) → WordAt f p word → n + more ≡ most_spared → (r : Register) → spared T f r n (p + 1) ≤ Behind p word r
     spared_next n more p word e is r =
         let y : p + 1 ≡ suc p = omega arith in
         let a = spared_there n more (p + 1) r is in
         let b = ap (λ m. heat m r) (ap (T.starts f) y ∙ word_next T flow.main Count w.words carries.placed f p word k.lt e) in omega arith
+
+    -- behind a planned word, where the goto of the next place may stand in it
+    abbrev Later : ℕ → Register → ℕ
+    Later p r = beside_turn (turns T f (p + 1)) (spared T f r 15 (p + 1))
+
+    later_next : (p rg wd : ℕ) (items : List Laid) → WordAt f p (Planned rg wd items) → (r : Register) → Later p r ≤ Behind p (Planned rg wd items) r
+    later_next p rg wd items e r = let a = spared_next 15 1 p (Planned rg wd items) e few_more r in by (turns T f (p + 1)) a
+      where
+        by : (b : Bool) → spared T f r 15 (p + 1) ≤ Behind p (Planned rg wd items) r → beside_turn b (spared T f r 15 (p + 1)) ≤ Behind p (Planned rg wd items) r
+        by true le = omega arith
+        by false le = le
+
+    later_there : (p : ℕ) (items : List Laid) (d : ℕ) → Going T f p items d → (r : Register) → Later p r ≤ heat (T.starts f d) r
+    later_there p items d g r =
+        let a = spared_there 14 2 d r fewer_more in
+        let b : turns T f (p + 1) ≡ true = ap (λ o. is_turn (turn_there T f (p + 1) o)) g.transfer ∙ ap (λ b. is_turn (if b then None else Some (past T f g.to))) g.away in
+        let c : spared T f r 15 (p + 1) ≡ suc (spared T f r 14 (past T f g.to)) = ap (spared_at T f r (p + 1) (spared T f r 14)) g.transfer ∙ ap (λ b. if b then spared T f r 14 (past T f g.to) else suc (spared T f r 14 (past T f g.to))) g.away in
+        let e : Later p r ≡ spared T f r 15 (p + 1) - 1 = ap (λ b. beside_turn b (spared T f r 15 (p + 1))) b in
+        let h = ap (spared T f r 14) g.is in omega arith
 
     way_fine : (p q : ℕ) (d : Register → ℕ) → FineFrom (at_word f p (Some (Transfer q)) (H p)) (way T f (p + 1) (past T f q)) d
     way_fine p q d = by (follows T f (p + 1) (past T f q))
@@ -357,16 +389,13 @@ module _ (T : Target) (flow : Flow) (ls : List VWords) (w : WordProgram) (sound 
         by false h next = ends (H p) (H (suc p)) (heat (T.starts f p + 1)) (waits n ∷ []) (λ r. (let a = leads_there p (suc p) (Drain n) e refl r in let b = ap (λ m. heat m r) next in omega arith)) (drain_fine T heat f M S p n e)
 
     inner : (p : ℕ) (word : VirtualWord) → WordAt f p word → FineFrom (at_word f p (Some word) (H p)) (word_words T f p word) (Behind p word)
-    inner p (Planned rg wd items) e = ends (H p) (H (suc p)) (Behind p (Planned rg wd items)) (plan_words T f p items) (next_there p (Planned rg wd items) e (inl refl)) (plan_fine T heat f M S l p rg wd items e (split_there p rg wd items e))
+    inner p (Planned rg wd items) e = ends (H p) (H (suc p)) (Behind p (Planned rg wd items)) (plan_words T f p items) (next_there p (Planned rg wd items) e (inl refl)) (plan_fine T heat f M S l p rg wd items e (split_there p rg wd items e) (goto_there p items))
     inner p (Drain n) e = idle_fine p n e
     inner p (Transfer q) e = way_fine p q (Behind p (Transfer q))
     inner p (Choice test q) e = ends (H p) (H (suc p)) (Behind p (Choice test q)) (choice_words T f test q) (next_there p (Choice test q) e (inr refl)) (choice_fine T heat f M S l p test q e (leads_past p q (Choice test q) e (inl refl)))
     inner p (Calls g arguments result) e = less (H p) cold (Behind p (Calls g arguments result)) (word_words T f p (Calls g arguments result)) (cold_here p (Calls g arguments result) e tt) (call_fine T heat f M S (carries.functions f k.lt).saved p g arguments result (Behind p (Calls g arguments result)) e l.issue (spared_next most_spared 0 p (Calls g arguments result) e (omega arith)))
     inner p (Returns x) e = less (H p) cold (Behind p (Returns x)) (return_words T f x) (cold_here p (Returns x) e tt) (return_fine T heat f x (Behind p (Returns x)))
     inner p (Ends j) e = stop_fine T.machine heat (H p) (EndByTrap j ∷ []) [] (Behind p (Ends j)) refl (λ q r i. absurd i) refl (λ r t. ⊎_elim (λ i. absurd i) (λ i. absurd i) t.0) (λ r. omega arith)
-
-    few_more : 15 + 1 ≡ most_spared
-    few_more = sym most_more
 
     -- what a word spares, by what the words behind it do
     spared_here : (p : ℕ) (word : VirtualWord) (r : Register) → WordAt f p word → spared T f r most_spared p ≡ spared_at T f r p (spared T f r 15) (Some word)
@@ -392,7 +421,7 @@ module _ (T : Target) (flow : Flow) (ls : List VWords) (w : WordProgram) (sound 
     outer : (p : ℕ) (word : VirtualWord) → WordAt f p word → FineFrom (λ r. max (at_word f p (Some word) (H p) r) (spared T f r most_spared p)) (word_words T f p word) (Behind p word)
     outer p (Planned rg wd items) e = less (λ r. max (H p r) (spared T f r most_spared p)) (λ r. max (H p r) (spared_at T f r p (spared T f r 15) (Some (Planned rg wd items)))) (Behind p (Planned rg wd items)) (plan_words T f p items)
         (λ r. (let a = spared_here p (Planned rg wd items) r e in omega arith))
-        (beside_fine T heat f M S l p rg wd items e (λ r. spared T f r 15 (p + 1)) (Behind p (Planned rg wd items)) (inner p (Planned rg wd items) e) (spared_next 15 1 p (Planned rg wd items) e few_more))
+        (beside_fine T heat f M S l p rg wd items e (Later p) (Behind p (Planned rg wd items)) (inner p (Planned rg wd items) e) (later_next p rg wd items e) (later_there p items))
     outer p (Drain n) e = spares_none p (Drain n) e (λ r. refl)
     outer p (Transfer q) e = goes_fine p q e
     outer p (Choice test q) e = spares_none p (Choice test q) e (λ r. refl)

@@ -27,6 +27,7 @@ pub mod Fit
 pub mod Forming
 pub mod SoundWords
 pub mod Early
+pub mod AtEnd
 pub mod Heats
 pub mod ColdPieces
 pub mod Loads

@@ -1,8 +1,8 @@
 -- What the operations of a planned word read and write, where they lead, and how long their results may take.
 use Rattle.std.proofs.Common.{◌≡◌, ◌≢◌, ◌⊎◌, inl, inr, ⊎_elim, ℕ, pos, Bool, true, false, eqb, cond, Option, Some, None, List, [], ◌∷◌, ◌++◌, map, refl, sym, ap, ◌∙◌, subst, arith}
 use Rattle.std.specs.Prelude.{if◌then◌else◌}
-use Rattle.std.specs.List.{flat_map}
-use Rattle.std.proofs.lemmas.Bool.{ne_eqb}
+use Rattle.std.specs.List.{flat_map, list_any}
+use Rattle.std.proofs.lemmas.Bool.{ne_eqb, false≢true}
 use Rattle.std.proofs.lemmas.Bool.Decides.{nat_tests}
 use Rattle.vx_base.specs.declared.arithmetic.Code.{Code}
 use Rattle.vx_base.specs.declared.arithmetic.Code.TheVariants.{Add, Sub, And, Or, Xor, Shl, Shr, Shru, Sh2add, Max, Min, Mov, ToGeneral, ToBranch, Mpylu, Mpyhs, Div, Rem}
@@ -19,7 +19,7 @@ use Rattle.vx_isa.specs.declared.operation.Register.TheVariants.{General, Branch
 use Rattle.vx_isa.specs.declared.operation.Source.{Source}
 use Rattle.vx_isa.specs.declared.operation.Source.TheVariants.{Held, Number}
 use Rattle.vx_isa.specs.declared.operation.Operation.{Operation}
-use Rattle.vx_isa.specs.declared.operation.Operation.TheVariants.{Compute, Move, BranchOn}
+use Rattle.vx_isa.specs.declared.operation.Operation.TheVariants.{Compute, Move, Goto, BranchOn}
 use Rattle.vx_isa.specs.Numbers.{Numbers}
 use Rattle.vx_isa.specs.Operations.{is_zero, read_of, reads_of, list_of, destination_of, is_call, comes_from, latency_of_code, latency_of}
 use Rattle.vx_isa.specs.Paths.{Among}
@@ -27,7 +27,7 @@ use Rattle.vx_machine.specs.Items.{latency_of_op}
 use Rattle.vx_mixed.specs.declared.layout.Laid.{Laid}
 use Rattle.vx_mixed.specs.declared.layout.Laid.TheVariants.{Plain, Split}
 use Rattle.vx_mixed.specs.Settled.{read_there}
-use Rattle.vx_target.specs.Target.{Target, home, holds_branch, is_own, general_of, branch_of, register_of, slotted, stack_on, zero_on, bytes, source_of, access_base, computes, carried, carried_items, leads}
+use Rattle.vx_target.specs.Target.{Target, home, holds_branch, is_own, general_of, branch_of, register_of, slotted, stack_on, zero_on, bytes, source_of, access_base, computes, carried, carried_items, leads, is_split}
 use Rattle.vx_target.proofs.Forms.{to_branch}
 use Rattle.vx_target.proofs.Proper.{PlainOperand, IsPlacedIn, ProperOp, ProperItems}
 use Rattle.vx_tie.proofs.Early.{falls, Jumps, hit_of, hits}
@@ -344,6 +344,12 @@ module _ (T : Target) (f : ℕ) (IsArray : ℕ → Type 0) where
           (λ e. record { test = test; when = y; to = to; split = inl refl; leads_there = e })
           (λ k. let a = items_jump q xs k in record { test = a.test; when = a.when; to = a.to; split = inr a.split; leads_there = a.leads_there })
           j
+
+      -- without a split a goto behind the operations is the only way elsewhere
+      pub goto_jumps : (to q : ℕ) (xs : List Laid) → list_any is_split xs ≡ false → Jumps (carried_items T f p Rs Ws xs ++ Goto to ∷ []) q → q ≡ to
+      goto_jumps to q [] h j = j
+      goto_jumps to q (Plain op k ∷ xs) h j = goto_jumps to q xs h (op_jumps op k (carried_items T f p Rs Ws xs ++ Goto to ∷ []) q j)
+      goto_jumps to q (Split test y d ∷ xs) h j = absurd (false≢true (sym h))
 
       more_items : (x : Laid) (xs : List Laid) (o : Operation) → OfItem T f p Rs Ws xs o → OfItem T f p Rs Ws (x ∷ xs) o
       more_items x xs o (of_op op k i e) = of_op op k (inr i) e

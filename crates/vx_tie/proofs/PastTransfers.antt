@@ -42,5 +42,15 @@ module _ (T : Target) (flow : Flow) (ls : List VWords) (r : Active) (is : IsFunc
     live = λ v k. h.live v (beyond e (λ i. i) refl k);
   }
 
+  led_from : (q d : ℕ) → Led q d → Led q (past T r.function d)
+  led_from q d h = past_keeps (T.layout r.function).words (Led q) (led_on q) most_transfers d h
+
+  stays_there : (q : ℕ) → Led q q
+  stays_there q = record { steps = 0; over_values = refl; live = λ v k. k }
+
   pub led_past : (q : ℕ) → Led q (past T r.function q)
-  led_past q = past_keeps (T.layout r.function).words (Led q) (led_on q) most_transfers q (record { steps = 0; over_values = refl; live = λ v k. k })
+  led_past q = led_from q q (stays_there q)
+
+  -- and from a transfer past where it goes
+  pub led_beyond : (q d : ℕ) → slice_get (T.layout r.function).words q ≡ Some (Transfer d) → Led q (past T r.function d)
+  led_beyond q d e = led_from q d (led_on q q d e (stays_there q))

@@ -4,6 +4,7 @@ use Rattle.std.specs.List.{list_all, list_any}
 use Rattle.std.specs.Cmp.Derive.{both_true}
 use Rattle.std.proofs.lemmas.Bool.{and_parts, false≢true}
 use Rattle.std.proofs.lemmas.Bool.Decides.{nat_tests}
+use Rattle.std.proofs.lemmas.List.Folds.{list_all-append}
 use Rattle.std.proofs.lemmas.List.Sums.{AllPass-from_list_all}
 use Rattle.vx_flow.specs.declared.graph.Bank.{Bank}
 use Rattle.vx_flow.specs.declared.trace.Homes.{Homes}
@@ -13,7 +14,7 @@ use Rattle.vx_flow.proofs.SoundLists.{all_in}
 use Rattle.vx_isa.specs.declared.operation.Register.{Register}
 use Rattle.vx_isa.specs.declared.operation.Register.TheVariants.{General, Branch, Link}
 use Rattle.vx_isa.specs.declared.operation.Operation.{Operation}
-use Rattle.vx_isa.specs.declared.operation.Operation.TheVariants.{BranchOn}
+use Rattle.vx_isa.specs.declared.operation.Operation.TheVariants.{Goto, BranchOn}
 use Rattle.vx_isa.specs.Numbers.{Numbers}
 use Rattle.vx_isa.specs.Operations.{same, reads_of, list_of, destination_of, is_lone}
 use Rattle.vx_isa.specs.Fits.{operands, destinations, is_twice, keeps_to_cluster, is_in_file, IsInFile}
@@ -27,6 +28,7 @@ use Rattle.vx_mixed.specs.Settled.{NoTwice}
 use Rattle.vx_mixed.specs.LaidSettled.{bank_in, item_writes, laid_reads, laid_writes, Plans}
 use Rattle.vx_target.specs.Target.{Target, branch_of, register_of, slotted, leads, carried, carried_items}
 use Rattle.vx_target.specs.Carried.{IsMapped, item_of_laid}
+use Rattle.vx_target.proofs.Beside.{Beside, alone, going, all_then}
 use Rattle.vx_target.proofs.Proper.{ProperItems}
 use Rattle.vx_target.proofs.Names.{apart_all}
 use Rattle.vx_target.proofs.Enough.{few_writes, named_busy, in_map}
@@ -128,7 +130,14 @@ module _ (T : Target) (f : ℕ) (mapped : IsMapped T f) (sound : Sound (T.graph 
       by true e = absurd (false≢true e)
       by false e = refl
 
-  pub plan_good : FitsByRoom → Good T.machine (Ops items)
-  plan_good by_room = well T.machine (Ops items) (ap is_twice (results items (λ x i. i)) ∙ once Ws (λ u i. i) (mapped.settled.once p items plans)) (all_pass keeps_to_cluster (λ x i. (item_carries x i).keeps) items (λ x i. i))
+  carried_good : FitsByRoom → Good T.machine (Ops items)
+  carried_good by_room = well T.machine (Ops items) (ap is_twice (results items (λ x i. i)) ∙ once Ws (λ u i. i) (mapped.settled.once p items plans)) (all_pass keeps_to_cluster (λ x i. (item_carries x i).keeps) items (λ x i. i))
       ((fits_in_words T.machine (Ops items)).1 (by_room T.machine TheHomes (map item_of_laid items) (Ops items) (mapped.settled.fits p items plans) (needs_each items (λ x i. i)) (inr none_lone)
       (λ k d h. in_file T.machine _ (AllPass-from_list_all (is_in_file T.machine) (operands (Ops items) ++ destinations (Ops items)) all_filed k d h))))
+
+  pub plan_good : FitsByRoom → (code : List Operation) → Beside T f p items code → Good T.machine code
+  plan_good by_room code alone = carried_good by_room
+  plan_good by_room code (going q g) = well T.machine (Ops items ++ Goto (T.starts f q) ∷ [])
+      (ap is_twice (all_then (λ op. list_of (destination_of op)) (Ops items) (Goto (T.starts f q)) refl ∙ results items (λ x i. i)) ∙ once Ws (λ u i. i) (mapped.settled.once p items plans))
+      (list_all-append keeps_to_cluster (Ops items) (Goto (T.starts f q) ∷ []) ∙ both_true (all_pass keeps_to_cluster (λ x i. (item_carries x i).keeps) items (λ x i. i)) refl)
+      g.fit

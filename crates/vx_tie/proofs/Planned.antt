@@ -45,8 +45,8 @@ use Rattle.vx_target.proofs.Items.{Ran, shape_items, same_items}
 use Rattle.vx_target.proofs.Steps.{Stands}
 use Rattle.vx_target.proofs.Slots.{Usable, in_or_not}
 use Rattle.vx_target.proofs.Stands.{word_stands, landing_stands, word_next}
-use Rattle.vx_target.proofs.Word.{slotted_from, Planning, Untouched, Arrived, First, ran}
-use Rattle.vx_tie.proofs.PastTransfers.{Led, led_past, steps_on}
+use Rattle.vx_target.proofs.Word.{slotted_from, Planning, Untouched, Arrived, IsAt, there, past_it, beyond as beyond_it, First, ran}
+use Rattle.vx_tie.proofs.PastTransfers.{Led, led_past, led_beyond, steps_on}
 use Rattle.vx_tie.proofs.Plan.{plan_run}
 
 module _ (T : Target) (flow : Flow) (ls : List VWords) (w : WordProgram) (sound : SoundFlow flow) (carries : Carries T flow ls w) (fit : AllFit T.machine w) (r : Active) (u : State) (tied : Tied T flow ls r u) (p region word : ℕ) (items : List Laid) (block : r.block ≡ suc p) (plan : slice_get (T.layout r.function).words p ≡ Some (Planned region word items)) where
@@ -350,10 +350,12 @@ module _ (T : Target) (flow : Flow) (ls : List VWords) (w : WordProgram) (sound 
         }
 
     carried : CarriesOn T flow ls w r u
-    carried = ⊎_elim
-        (λ place. carried_to q (record { steps = 0; over_values = refl; live = λ v k. k }) place)
-        (λ place. carried_to (past T F q) (led_past T flow ls After tied.is q) place)
-        arrived.place
+    carried = by arrived.place
+      where
+        by : IsAt T.machine w fit T F Here p carries.memory small some TheSetting IsArray items S u q To.place → CarriesOn T flow ls w r u
+        by (there place) = carried_to q (record { steps = 0; over_values = refl; live = λ v k. k }) place
+        by (past_it place) = carried_to (past T F q) (led_past T flow ls After tied.is q) place
+        by (beyond_it to transfer place) = carried_to (past T F to) (led_beyond T flow ls After tied.is q to transfer) place
 
   took_some : (t : VState) → laid_effect TheSetting S items S ≡ Some t → (q : Option ℕ) → laid_next S (suc p) items ≡ q → CarriesOn T flow ls w r u
   took_some t e None k = absurd (wrong (next_is Hop.Wrong (ap (λ x. and_then x (moves_to p (laid_next S (suc p) items))) e ∙ ap (λ x. moves_to p x t) k)))

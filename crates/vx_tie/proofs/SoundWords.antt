@@ -40,10 +40,11 @@ use Rattle.vx_mixed.specs.declared.layout.VirtualWord.TheVariants.{Planned, Drai
 use Rattle.vx_mixed.specs.declared.layout.VWords.{VWords}
 use Rattle.vx_mixed.specs.LaidSettled.{laid_reads, laid_writes, LeadsTo, Plans}
 use Rattle.vx_layout.specs.Origins.{ComesFrom, graph_op}
-use Rattle.vx_target.specs.Target.{Target, answer, general, general_of, branch_of, register_of, is_own, stack_on, holds_branch, is_slotted, kept, slotted, once, parameters_of, one, together, pause, in_flight, settled, set_stack, slots_in_flight, load_slot, store_slot, load_slots, store_slots, if_some, before, behind, past, leads, carried, carried_items, plan_word, plan_words, landing_words, on_clusters, stack_steps, move_stack, leave_or_lower, save_words, reload_words, fetch_words, fetched, passes, calls_beside, store_or_call, argument_words, result_words, call_words, back_words, is_caller, answer_words, last_beside, leave_words, return_words, follows, way, link_words, begin_words, wanted, entry_words, turns, idle_words, word_words, start_words, waits, bytes, first_frame, memory_words}
+use Rattle.vx_target.specs.Target.{Target, answer, general, general_of, branch_of, register_of, is_own, stack_on, holds_branch, is_slotted, kept, slotted, once, parameters_of, one, together, pause, in_flight, settled, set_stack, slots_in_flight, load_slot, store_slot, load_slots, store_slots, if_some, before, behind, past, leads, carried, carried_items, plan_ops, plan_word, plan_words, landing_words, on_clusters, stack_steps, move_stack, leave_or_lower, save_words, reload_words, fetch_words, fetched, passes, calls_beside, store_or_call, argument_words, result_words, call_words, back_words, is_caller, answer_words, last_beside, leave_words, return_words, follows, way, link_words, begin_words, wanted, entry_words, turns, idle_words, word_words, start_words, waits, bytes, first_frame, memory_words}
 use Rattle.vx_target.specs.Placed.{Depth, Labelled, laid_pieces, landing_of, item_landings, word_landings, landing_pieces, function_pieces, functions_pieces, all_pieces, words_of}
 use Rattle.vx_target.specs.Carried.{Carries, IsFunctionOf, IsMapped, item_of_laid}
 use Rattle.vx_tie.specs.Fitted.{SoundLaw}
+use Rattle.vx_target.proofs.Beside.{Beside, alone, going, beside}
 use Rattle.vx_target.proofs.FromPlace.{StandFrom, stand_here, stand_on, stand_from_start}
 use Rattle.vx_target.proofs.Enough.{in_map}
 use Rattle.vx_tie.proofs.Fit.{words_fit}
@@ -470,8 +471,17 @@ module _ (T : Target) (flow : Flow) (ls : List VWords) (w : WordProgram) (sound 
       items_formed (Plain op k ∷ xs) h = (operation_formed op k (h (Plain op k) (inl refl)), items_formed xs (λ x i. h x (inr i)))
       items_formed (Split test y q ∷ xs) h = (leads_below test q y (h (Split test y q) (inl refl)), items_formed xs (λ x i. h x (inr i)))
 
+      formed_then : (ops : List Operation) (op : Operation) → AllFormed W N ops → Is op → AllFormed W N (ops ++ op ∷ [])
+      formed_then [] op h g = (g, tt)
+      formed_then (x ∷ ops) op h g = (h.0, formed_then ops op h.1 g)
+
+      plan_formed : (code : List Operation) → Beside T f p items code → AllFormed W N code
+      plan_formed code alone = items_formed items (λ x i. i)
+      plan_formed code (going q g) = formed_then (carried_items T f p Rs Ws items) (Goto (T.starts f q)) (items_formed items (λ x i. i))
+          (subst (λ d. T.starts f d < W) (sym g.is) (past_start g.to (mapped.settled.inside (p + 1) g.to (Transfer g.to) g.transfer refl)))
+
       planned_right : Words (plan_words T f p items)
-      planned_right = right_append W N (before T f Rs) (plan_word T f p items ∷ behind T f items) (before_right f Rs) (has_ops W N (carried_items T f p Rs Ws items) (items_formed items (λ x i. i)), behind_right f items)
+      planned_right = right_append W N (before T f Rs) (plan_word T f p items ∷ behind T f items) (before_right f Rs) (has_ops W N (plan_ops T f p items) (plan_formed (plan_ops T f p items) (beside T f p items)), behind_right f items)
 
       landing_right : (test q : ℕ) (y : Bool) → IsIn (Split test y q) items → Words (landing_words T f items q)
       landing_right test q y i = right_append W N (behind T f items) (one (Goto (T.starts f (past T f q))) ∷ []) (behind_right f items) (has_one W N (Goto (T.starts f (past T f q))) (past_start q (mapped.settled.inside p q (Planned rg wd items) plan (inr (test, y, i)))), tt)

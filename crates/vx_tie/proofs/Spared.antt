@@ -15,7 +15,7 @@ use Rattle.vx_isa.specs.Operations.{same, destination_of, is_call, latency_of}
 use Rattle.vx_isa.proofs.AnyTiming.{tells}
 use Rattle.vx_mixed.specs.declared.layout.VirtualWord.{VirtualWord}
 use Rattle.vx_mixed.specs.declared.layout.VirtualWord.TheVariants.{Planned, Drain, Transfer, Choice, Call as Calls, Return as Returns, Ends}
-use Rattle.vx_target.specs.Target.{Target, register_of, is_slotted, kept, past, follows, pause, is_split, spares, by_way, spared_at, spared, most_spared, is_to, landing_of, flight, time_to, wanted}
+use Rattle.vx_target.specs.Target.{Target, register_of, is_slotted, kept, past, follows, pause, is_split, turns, spares, by_way, beside_turn, spared_at, spared, most_spared, is_to, landing_of, flight, time_to, wanted}
 use Rattle.vx_target.proofs.Pauses.{wanted_covers}
 use Rattle.vx_target.proofs.Word.{own_name}
 use Rattle.vx_tie.proofs.Early.{falls, Jumps, hit_of, hits, Touches, words_kind, words_cool}
@@ -131,12 +131,13 @@ module _ (T : Target) (f : ℕ) where
 
   at_more : (r : Register) (p : ℕ) (on more : ℕ → ℕ) (o : Option VirtualWord) → ((q : ℕ) → on q ≤ more q) → spared_at T f r p on o ≤ spared_at T f r p more o
   at_more r p on more None h = omega arith
-  at_more r p on more (Some (Planned rg wd items)) h = by (spares T f r items) (list_any is_split items)
+  at_more r p on more (Some (Planned rg wd items)) h = by (spares T f r items) (list_any is_split items) (turns T f (p + 1))
     where
-      by : (s t : Bool) → (if s then (if t then 1 else suc (on (p + 1))) else 0) ≤ (if s then (if t then 1 else suc (more (p + 1))) else 0)
-      by true true = omega arith
-      by true false = let a = h (p + 1) in omega arith
-      by false t = omega arith
+      by : (s t b : Bool) → (if s then (if t then 1 else suc (beside_turn b (on (p + 1)))) else 0) ≤ (if s then (if t then 1 else suc (beside_turn b (more (p + 1)))) else 0)
+      by true true b = omega arith
+      by true false true = let a = h (p + 1) in omega arith
+      by true false false = let a = h (p + 1) in omega arith
+      by false t b = omega arith
   at_more r p on more (Some (Drain n)) h = omega arith
   at_more r p on more (Some (Transfer q)) h = way_more (p + 1) (past T f q) (on (past T f q)) (more (past T f q)) (h (past T f q))
   at_more r p on more (Some (Choice test q)) h = omega arith

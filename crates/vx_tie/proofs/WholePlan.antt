@@ -12,17 +12,24 @@ use Rattle.vx_isa.specs.Paths.{WordAt}
 use Rattle.vx_mixed.specs.declared.layout.VWords.{VWords}
 use Rattle.vx_regs.specs.declared.map.RegMap.{RegMap}
 use Rattle.vx_target.specs.declared.finished.Finished.{Finished}
-use Rattle.vx_target.specs.Target.{Target}
+use Rattle.vx_target.specs.Target.{Target, most_transfers}
 use Rattle.vx_target.specs.Carried.{Carries}
 use Rattle.vx_target.specs.Finish.{Finishes}
 use Rattle.vx_target.specs.Places.{plan_place}
-use Rattle.vx_tie.specs.Plans.{IsOther, loads_slot, stores_slot, picks_number, tests_number, moves, tests_depth, leaves_by_depth, leaves_or_lowers, moves_stacks, calls, stores_slot_and_calls, takes_link, stores_link, loads_link, moves_and_loads_link, gives_link, returns, moves_and_returns, sets_stacks, calls_first, halts, traps, traps_depth, idles, goes, branches, goes_out, IsPlanPlace, IsIdle, cycles_at, cycles_from, CarriesPlan, AreSpaced, PlanLaw}
+use Rattle.vx_target.proofs.Beside.{turn_is}
+use Rattle.vx_target.proofs.Frames.{past_keeps}
+use Rattle.vx_tie.specs.Plans.{by_transfer, IsEntrance, TurnLaw, IsOther, loads_slot, stores_slot, picks_number, tests_number, moves, tests_depth, leaves_by_depth, leaves_or_lowers, moves_stacks, calls, stores_slot_and_calls, takes_link, stores_link, loads_link, moves_and_loads_link, gives_link, returns, moves_and_returns, sets_stacks, calls_first, halts, traps, traps_depth, idles, goes, branches, goes_out, IsPlanPlace, IsIdle, cycles_at, cycles_from, CarriesPlan, AreSpaced, PlanLaw}
 use Rattle.vx_tie.proofs.EachWord.{IsPlanWord, word_kind, plan_stands}
 use Rattle.vx_tie.proofs.IdleWords.{Operates, Busy, busy_beside}
 
 no_op : (ops : List Operation) → Operates ops → ops ≡ [] → ⊥
 no_op [] h e = h
 no_op (op ∷ ops) h e = absurd (cc)
+
+pub turn_law : TurnLaw
+turn_law T f p q h =
+    let a = turn_is T f p (slice_get (T.layout f).words p) q h in
+    subst (IsEntrance (T.layout f)) (sym a.2) (past_keeps (T.layout f).words (IsEntrance (T.layout f)) (λ d to e k. by_transfer d e) most_transfers a.0 (by_transfer p a.1))
 
 module _ (T : Target) (count q : ℕ) where
   -- one that has no operation is a pause, or moves the stack pointers of no clusters

@@ -31,8 +31,9 @@ use Rattle.vx_mixed.specs.Settled.{read_there}
 use Rattle.vx_mixed.specs.declared.layout.VirtualWord.TheVariants.{Planned}
 use Rattle.vx_mixed.specs.LaidSettled.{item_reads, item_writes, laid_reads, laid_writes, Plans, LeadsTo}
 use Rattle.vx_regs.specs.Intervals.{is_named}
-use Rattle.vx_target.specs.Target.{Target, home, is_branch, kept, is_slotted, slotted, register_of, past, leads, carried, carried_items, slots_in_flight, if_some, settled, once, load_slots, store_slots, pause, before, behind, plan_word, plan_words, landing_words, one, is_elsewhere, all_elsewhere, item_elsewhere, is_for_values, spares, is_split}
+use Rattle.vx_target.specs.Target.{Target, home, is_branch, kept, is_slotted, slotted, register_of, past, leads, carried, carried_items, slots_in_flight, if_some, settled, once, load_slots, store_slots, pause, before, behind, plan_word, plan_words, landing_words, one, is_elsewhere, all_elsewhere, item_elsewhere, is_for_values, spares, is_split, plan_ops}
 use Rattle.vx_target.specs.Carried.{IsMapped, item_of_laid}
+use Rattle.vx_target.proofs.Beside.{Going, Beside as WithGoto, alone, going, beside}
 use Rattle.vx_target.proofs.FromGraph.{op_proper, test_proper}
 use Rattle.vx_target.proofs.Frames.{get_some}
 use Rattle.vx_target.proofs.Pauses.{slots_land}
@@ -43,10 +44,11 @@ use Rattle.vx_target.proofs.Enough.{few_reads, few_writes, in_all_of, in_map}
 use Rattle.vx_target.proofs.Word.{slotted_in, slotted_from, own_name}
 use Rattle.vx_target.proofs.Limits.{Limits}
 use Rattle.vx_tie.proofs.Filed.{general_there}
+use Rattle.vx_tie.proofs.AtEnd.{touches_then, hits_then}
 use Rattle.vx_tie.proofs.Early.{falls, hits, Jumps, Touches, words_kind, words_cool}
 use Rattle.vx_tie.proofs.Heats.{lift, lift_from, lift_at, raised_bound, stop_fine}
 use Rattle.vx_tie.proofs.ColdPieces.{Fine}
-use Rattle.vx_tie.proofs.Operations.{from_operation, from_hit, ReadBy, of_value, of_zero, of_pointer, OfItem, of_op, of_split, proper_op, branch_name, op_reads, op_writes, op_latency, items_fall, items_jump, of_item}
+use Rattle.vx_tie.proofs.Operations.{from_operation, from_hit, ReadBy, of_value, of_zero, of_pointer, OfItem, of_op, of_split, proper_op, branch_name, op_reads, op_writes, op_latency, items_jump, goto_jumps, of_item}
 use Rattle.vx_tie.proofs.Pending.{Banked, Busy, pend, pend_kept, pend_own, pend_name, pend_scratch, written_there, left_pends}
 use Rattle.vx_tie.proofs.PlanHeats.{Settles, before_fine}
 use Rattle.vx_tie.proofs.StoreHeats.{behind_fine}
@@ -275,19 +277,51 @@ module _ (T : Target) (heat : ℕ → Register → ℕ) (f : ℕ) (mapped : IsMa
   stored q rest e more = behind_fine T heat f Ws (Heat q) (λ k. pend_own T f mapped sound q k 1 (omega arith)) (pend_own T f mapped sound q 0 2 (omega arith)) Late rest e (written_cold q) more
 
   -- the words of a planned word, where each split leads to where no less may be in flight
-  pub plan_fine : ((test to : ℕ) (y : Bool) → IsIn (Split test y to) items → (r : Register) → Lifted to r ≤ heat (leads T f p (slotted T f Ws) to) r) → F (Heat p) (plan_words T f p items) (Heat (suc p))
-  plan_fine there = fine_append (words_kind T.machine) (words_cool T.machine) heat (Heat p) (Heat p) (Heat (suc p)) (before T f Rs) (plan_word T f p items ∷ behind T f items)
-      (before_fine T heat f mapped sound p Rs few_r read_settles) (
-        meets,
-        (λ q r j. (let k = items_jump T f IsArray Rs Ws p q items j in
-            let a = plan_cooled k.to (inr (k.test, k.when, k.split)) r in
-            let b = there k.test k.to k.when k.split r in
-            let c = ap (λ x. heat x r) k.leads_there in omega arith)),
-        fine_less (words_kind T.machine) (words_cool T.machine) heat (cond (falls Ops) (λ r. raised same (hits T.machine Ops) (Heat p) r - 1) cold) (Lifted (suc p)) (Heat (suc p)) (behind T f items)
-            (λ r. (let a = plan_cooled (suc p) (inl refl) r in
-            let q : cond (falls Ops) (λ s. raised same (hits T.machine Ops) (Heat p) s - 1) cold r ≡ raised same (hits T.machine Ops) (Heat p) r - 1 = ap (λ t. cond t (λ s. raised same (hits T.machine Ops) (Heat p) s - 1) cold r) (items_fall T f IsArray Rs Ws p items) in omega arith))
-            (subst (λ ws. F (Lifted (suc p)) ws (Heat (suc p))) (append-nil (behind T f items)) (stored (suc p) [] (Heat (suc p)) (λ r. omega arith))),
-      )
+  -- and a goto in it too
+  abbrev pub Leaves : Type 0
+  Leaves = (test to : ℕ) (y : Bool) → IsIn (Split test y to) items → (r : Register) → Lifted to r ≤ heat (leads T f p (slotted T f Ws) to) r
+
+  abbrev pub GoesOn : Type 0
+  GoesOn = (d : ℕ) → Going T f p items d → (r : Register) → Heat (suc p) r ≤ heat (T.starts f d) r
+
+  abbrev Cooled : List Operation → Register → ℕ
+  Cooled code r = raised same (hits T.machine code) (Heat p) r - 1
+
+  last : F (Lifted (suc p)) (behind T f items) (Heat (suc p))
+  last = subst (λ ws. F (Lifted (suc p)) ws (Heat (suc p))) (append-nil (behind T f items)) (stored (suc p) [] (Heat (suc p)) (λ r. omega arith))
+
+  then_last : (code : List Operation) → ((r : Register) → Cooled code r ≤ Lifted (suc p) r) → F (cond (falls code) (Cooled code) cold) (behind T f items) (Heat (suc p))
+  then_last code le = fine_less (words_kind T.machine) (words_cool T.machine) heat (cond (falls code) (Cooled code) cold) (Lifted (suc p)) (Heat (suc p)) (behind T f items) (λ r. by r (falls code)) last
+    where
+      by : (r : Register) (b : Bool) → cond b (Cooled code) cold r ≤ Lifted (suc p) r
+      by r true = le r
+      by r false = omega arith
+
+  goto_cooled : (d : ℕ) (r : Register) → Cooled (Ops ++ Goto d ∷ []) r ≤ Lifted (suc p) r
+  goto_cooled d r = let a = plan_cooled (suc p) (inl refl) r in let b = ap (λ hs. raised same hs (Heat p) r) (hits_then T.machine Ops d) in omega arith
+
+  word_fine : Leaves → GoesOn → (code : List Operation) → WithGoto T f p items code → F (Heat p) (record { ops = code; idle = 0 } ∷ behind T f items) (Heat (suc p))
+  word_fine there goes code alone = (
+    meets,
+    (λ q r j. (let k = items_jump T f IsArray Rs Ws p q items j in
+        let a = plan_cooled k.to (inr (k.test, k.when, k.split)) r in
+        let b = there k.test k.to k.when k.split r in
+        let c = ap (λ x. heat x r) k.leads_there in omega arith)),
+    then_last Ops (plan_cooled (suc p) (inl refl)),
+  )
+  word_fine there goes code (going d g) = (
+    (λ r t. meets r (touches_then Ops (T.starts f d) r t)),
+    (λ q r j. (let k : q ≡ T.starts f d = goto_jumps T f IsArray Rs Ws p (T.starts f d) q items g.no_split j in
+        let a = goto_cooled (T.starts f d) r in
+        let b : Lifted (suc p) r ≡ Heat (suc p) r = ap (λ vs. lift Late (Heat (suc p)) (map (register_of T f Ws) vs) r) g.no_slot in
+        let c = goes d g r in
+        let e = ap (λ x. heat x r) k in omega arith)),
+    then_last (Ops ++ Goto (T.starts f d) ∷ []) (goto_cooled (T.starts f d)),
+  )
+
+  pub plan_fine : Leaves → GoesOn → F (Heat p) (plan_words T f p items) (Heat (suc p))
+  plan_fine there goes = fine_append (words_kind T.machine) (words_cool T.machine) heat (Heat p) (Heat p) (Heat (suc p)) (before T f Rs) (plan_word T f p items ∷ behind T f items)
+      (before_fine T heat f mapped sound p Rs few_r read_settles) (word_fine there goes (plan_ops T f p items) (beside T f p items))
 
   -- a register that it spares may be in flight besides
 
@@ -356,8 +390,29 @@ module _ (T : Target) (heat : ℕ → Register → ℕ) (f : ℕ) (mapped : IsMa
         by true false = let a = le r in omega arith
         by false c = omega arith
 
-    pub beside_fine : F (Heat p) (plan_words T f p items) e → ((r : Register) → on r ≤ e r) → F (λ r. max (Heat p r) (Beside r)) (plan_words T f p items) e
-    beside_fine fine le = by (slotted T f Rs) (slotted T f Ws) refl refl fine
+    -- where a goto in the word leads there is as much time
+    abbrev pub GoesLater : Type 0
+    GoesLater = (d : ℕ) → Going T f p items d → (r : Register) → on r ≤ heat (T.starts f d) r
+
+    code_touched : (code : List Operation) → WithGoto T f p items code → (r : Register) → Touches code r → Beside r ≡ 0
+    code_touched code alone r t = beside_touched r t
+    code_touched code (going d g) r t = beside_touched r (touches_then Ops (T.starts f d) r t)
+
+    code_jumps : GoesLater → (code : List Operation) → WithGoto T f p items code → (q : ℕ) (r : Register) → Jumps code q → Beside r - 1 ≤ heat q r
+    code_jumps later code alone q r j = beside_jumps q r j
+    code_jumps later code (going d g) q r j =
+        let k : q ≡ T.starts f d = goto_jumps T f IsArray Rs Ws p (T.starts f d) q items g.no_split j in
+        let a = later d g r in
+        let b = ap (λ x. heat x r) k in
+        let c = by (spares T f r items) (list_any is_split items) in omega arith
+      where
+        by : (b c : Bool) → (if b then (if c then 1 else suc (on r)) else 0) - 1 ≤ on r
+        by true true = omega arith
+        by true false = omega arith
+        by false c = omega arith
+
+    pub beside_fine : F (Heat p) (plan_words T f p items) e → ((r : Register) → on r ≤ e r) → GoesLater → F (λ r. max (Heat p r) (Beside r)) (plan_words T f p items) e
+    beside_fine fine le later = by (slotted T f Rs) (slotted T f Ws) refl refl fine
       where
         Loads : List Word
         Loads = settled T (load_slots T f Rs (once (slotted T f Rs)))
@@ -369,7 +424,7 @@ module _ (T : Target) (heat : ℕ → Register → ℕ) (f : ℕ) (mapped : IsMa
         none v ws i s a = fine_less (words_kind T.machine) (words_cool T.machine) heat (λ r. max (Heat p r) (Beside r)) (Heat p) e ws (λ r. (let z = beside_off v r i s in omega arith)) a
 
         by : (xs ys : List ℕ) → slotted T f Rs ≡ xs → slotted T f Ws ≡ ys → F (Heat p) (if_some xs Loads ++ plan_word T f p items ∷ if_some ys Stores) e → F (λ r. max (Heat p r) (Beside r)) (if_some xs Loads ++ plan_word T f p items ∷ if_some ys Stores) e
-        by [] [] s t a = fine_also T.machine heat (Heat p) Beside e Ops a beside_touched beside_jumps (beside_left le)
+        by [] [] s t a = fine_also T.machine heat (Heat p) Beside e (plan_ops T f p items) a (code_touched (plan_ops T f p items) (beside T f p items)) (code_jumps later (plan_ops T f p items) (beside T f p items)) (beside_left le)
         by (v ∷ vs) ys s t a = let x = slotted_from T f v Rs (subst (IsIn v) (sym s) (inl refl)) in none v (Loads ++ plan_word T f p items ∷ if_some ys Stores) (inl x.0) x.1 a
         by [] (v ∷ vs) s t a = let x = slotted_from T f v Ws (subst (IsIn v) (sym t) (inl refl)) in none v (plan_word T f p items ∷ Stores) (inr x.0) x.1 a
 

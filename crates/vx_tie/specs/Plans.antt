@@ -1,5 +1,5 @@
--- The words of a program carry the words of its plan: at the place of each one stands a word with exactly its operations, and every
--- other word is of one of the kinds below.
+-- The words of a program carry the words of its plan: at the place of each one stands a word with exactly its operations and, as the
+-- last one, where it can stand there, the goto of the place behind; and every other word is of one of the kinds below.
 use Rattle.std.specs.Prelude.{◌≡◌, ◌⊎◌, ◌<◌, ◌≤◌, ◌+◌, ℕ, zero, suc, ℤ, pos, neg_ℤ, Bool, true, false, Option, Some, None, List, [], ◌∷◌, length, slice_get}
 use Rattle.vx_base.specs.declared.arithmetic.Code.TheVariants.{Add, ToBranch}
 use Rattle.vx_base.specs.declared.arithmetic.Compare.TheVariants.{Ltu, Ne}
@@ -35,7 +35,7 @@ use Rattle.vx_regs.specs.declared.map.RegMap.{RegMap}
 use Rattle.vx_regs.specs.Mapped.{first_of}
 use Rattle.vx_target.specs.declared.finished.Finished.{Finished}
 use Rattle.vx_target.specs.declared.finished.TracePlaces.{TracePlaces}
-use Rattle.vx_target.specs.Target.{Target, answer, bytes, first_frame, general, holds_branch, is_drain, is_slotted, kept, on_clusters, one, plan_word, slotted, stack_on, stack_steps, waits}
+use Rattle.vx_target.specs.Target.{Target, answer, bytes, first_frame, general, holds_branch, is_drain, is_slotted, kept, on_clusters, one, turn, plan_word, slotted, stack_on, stack_steps, waits}
 use Rattle.vx_target.specs.Carried.{CallsAt, NeedsSlot}
 use Rattle.vx_target.specs.Places.{places_in}
 use Rattle.vx_target.specs.Finish.{Finishes}
@@ -186,12 +186,16 @@ cycles_from words q zero = 0
 cycles_from words q (suc n) = cycles_at (slice_get words q) + cycles_from words (suc q) n
 
 -- At its place each word of the plan stands, with its operations in their order, each on its cluster and with its registers and
--- numbers; every word that stands at no such place is another one; and others without an operation, one behind the other, last at
--- most 16 cycles together.
+-- numbers, and the goto of the place behind, where it can go on by itself; every word that stands at no such place is another one; and
+-- others without an operation, one behind the other, last at most 16 cycles together.
 pub record CarriesPlan (T : Target) (ls : List VWords) (places : List TracePlaces) (w : WordProgram) : Type 0 where
   pub planned : (f p r i : ℕ) (items : List Laid) → f < length ls → slice_get (T.layout f).words p ≡ Some (Planned r i items) → (q : ℕ) × IsPlaceIn places ls f r i q × WordAt w q (plan_word T f p items)
   pub others : (q : ℕ) (word : Word) → WordAt w q word → IsPlanPlace T ls places q ⊎ IsOther T (length ls) q word
   pub idle : (q n : ℕ) → ((i : ℕ) → i < n → IsIdle T ls places w (q + i)) → cycles_from w.words q n ≤ 16
+
+-- A goto of a layout leads to an entrance: past transfers, to where the last of them goes.
+abbrev pub TurnLaw : Type 0
+TurnLaw = (T : Target) (f p q : ℕ) → turn T f p ≡ Some q → IsEntrance (T.layout f) q
 
 -- behind a word of a layout another one stands, which is none of empty cycles
 pub record GoesOn (l : VWords) (p : ℕ) : Type 0 where

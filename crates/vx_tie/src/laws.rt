@@ -1,7 +1,7 @@
 // Laws of what words that carry layouts do: the same as the layouts, by the plan. Each is the clause of a function that does nothing.
 
 ghost use Rattle.vx_tie.specs.Moved.{StackLaw};
-ghost use Rattle.vx_tie.specs.Plans.{EntranceLaw, PlanLaw, SpacedLaw};
+ghost use Rattle.vx_tie.specs.Plans.{EntranceLaw, PlanLaw, SpacedLaw, TurnLaw};
 ghost use Rattle.vx_tie.specs.Planned.{CallLaw, EntryLaw, PlannedLaw, SimpleLaw, StartLaw};
 ghost use Rattle.vx_tie.specs.Returned.{ReturnLaw};
 ghost use Rattle.vx_tie.specs.Whole.{WholeLaw};
@@ -68,6 +68,11 @@ pub fn finished_programs_carry_their_plan()
 /// cycles; and where a split leads stand empty cycles or a word that goes on at once.
 pub fn layouts_are_spaced()
     ensures { SpacedLaw }
+{}
+
+/// The goto of a layout, which may stand in a planned word, leads to an entrance.
+pub fn turns_lead_to_entrances()
+    ensures { TurnLaw }
 {}
 
 /// The entrances of such a layout, which jumps of the program lead to, are where blocks of the graph are entered: starts of regions, and
