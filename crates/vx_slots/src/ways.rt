@@ -1,11 +1,15 @@
-// Where jumps arrive: past the transfers that stand where they go, so that a jump does not lead to a jump.
+// Where words of a layout go on. A jump arrives past the transfers that stand where it goes, so that it does not lead to a jump; a
+// transfer to a place that cannot follow at once goes there by a word of its own.
 
-ghost use Rattle.std.specs.Prelude.{◌≡◌, slice_get};
-ghost use Rattle.vx_target.specs.Target.{past, past_from, past_there, past_word};
+ghost use Rattle.std.specs.Prelude.{◌≡◌, IfOk, slice_get};
+ghost use Rattle.std.specs.List.{list_any};
+ghost use Rattle.vx_target.specs.Target.{follows, is_drain, is_drain_there, is_split, past, past_from, past_there, past_word, turn, turn_of};
 ghost use Rattle.vx_slots.specs.Seen.{seen};
 
 use crate::program::{Whole, words_of};
-use vx_mixed::layout::VirtualWord;
+use vx_base::outcome::NoMemory;
+use vx_base::sizes::sum;
+use vx_mixed::layout::{Laid, VirtualWord};
 
 /// The most transfers that a jump goes past.
 const MOST_TRANSFERS: u32 = 64;
@@ -55,4 +59,95 @@ pub fn past(whole: &Whole, function: u32, place: u32) -> u32
     ensures { result ≡ past (seen whole.now) function place }
 {
     past_from(words_of(whole, function), MOST_TRANSFERS, place)
+}
+
+/// Whether a word of a layout is one of empty cycles.
+fn is_drain(word: &VirtualWord) -> bool
+    ensures { result ≡ is_drain word.now }
+{
+    match word {
+        VirtualWord::Drain(_) => true,
+        VirtualWord::Planned { .. } => false,
+        VirtualWord::Transfer(_) => false,
+        VirtualWord::Choice { .. } => false,
+        VirtualWord::Call { .. } => false,
+        VirtualWord::Return(_) => false,
+        VirtualWord::Ends(_) => false,
+    }
+}
+
+/// Whether empty cycles stand at a place of a function's layout.
+fn is_drain_at(whole: &Whole, function: u32, place: u32) -> bool
+    ensures { result ≡ is_drain_there (slice_get ((seen whole.now).layout function).words place) }
+{
+    match words_of(whole, function).get(place as usize) {
+        Some(word) => is_drain(word),
+        None => false,
+    }
+}
+
+/// Whether a place of a layout can follow at once, where another one is next: it is that one, and no empty cycles stand there.
+pub fn follows(whole: &Whole, function: u32, next: u32, to: u32) -> bool
+    ensures { result ≡ follows (seen whole.now) function next to }
+{
+    next == to && !is_drain_at(whole, function, to)
+}
+
+/// Where a word of a layout at a place goes by a word of its own.
+fn turn_of(
+    whole: &Whole,
+    function: u32,
+    place: u32,
+    word: &VirtualWord,
+) -> Result<Option<u32>, NoMemory>
+    ensures { IfOk result (λ to. to ≡ turn_of (seen whole.now) function place word.now) }
+{
+    match word {
+        VirtualWord::Transfer(to) => {
+            let next = sum(place, 1)?;
+            let to = past(whole, function, *to);
+            if follows(whole, function, next, to) {
+                Ok(None)
+            } else {
+                Ok(Some(to))
+            }
+        }
+        VirtualWord::Planned { .. } => Ok(None),
+        VirtualWord::Drain(_) => Ok(None),
+        VirtualWord::Choice { .. } => Ok(None),
+        VirtualWord::Call { .. } => Ok(None),
+        VirtualWord::Return(_) => Ok(None),
+        VirtualWord::Ends(_) => Ok(None),
+    }
+}
+
+/// Where the word at a place of a function's layout goes by a word of its own: a transfer to a place that cannot follow at once.
+pub fn turn(whole: &Whole, function: u32, place: u32) -> Result<Option<u32>, NoMemory>
+    ensures { IfOk result (λ to. to ≡ turn (seen whole.now) function place) }
+{
+    match words_of(whole, function).get(place as usize) {
+        Some(word) => turn_of(whole, function, place, word),
+        None => Ok(None),
+    }
+}
+
+fn is_split(item: &Laid) -> bool
+    ensures { result ≡ is_split item.now }
+{
+    match item {
+        Laid::Plain { .. } => false,
+        Laid::Split { .. } => true,
+    }
+}
+
+/// Whether one of the items of a word is a split.
+pub fn has_split(items: &[Laid]) -> bool
+    ensures { result ≡ list_any is_split items.now }
+{
+    for item in items {
+        if is_split(item) {
+            return true;
+        }
+    }
+    false
 }
