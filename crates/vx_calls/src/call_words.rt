@@ -11,7 +11,7 @@ ghost use Rattle.vx_target.specs.Target.{bytes, general, one, pause, together, s
 ghost use Rattle.vx_slots.specs.Seen.{seen};
 
 use crate::lookups::{brought, entered_at, entry, is_caller, parameters, saved};
-use crate::pauses::{follows, wanted};
+use crate::pauses::wanted;
 use std::alloc::Global;
 use vx_base::arithmetic::{Code, Compare};
 use vx_base::listed::{Listed, copied};
@@ -28,7 +28,7 @@ use vx_slots::transfers::{
     answer, load_slot, load_slots, named_by, push_last, push_one, push_pause, push_settled,
     push_settled_two, push_settled_word, push_wait, store_slots, words_from,
 };
-use vx_slots::ways::past;
+use vx_slots::ways::{follows, past};
 
 /// The register by which the link goes to and from its frame.
 fn link_scratch() -> GeneralRegister

@@ -6,5 +6,5 @@ pub mod addresses;
 pub mod call_words;
 pub mod frames;
 mod lookups;
-pub mod pauses;
+mod pauses;
 mod saves;

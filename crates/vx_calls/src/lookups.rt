@@ -1,7 +1,7 @@
 // What the words of calls, returns and entries take from a whole program.
 
-ghost use Rattle.std.specs.Prelude.{◌≡◌, slice_get};
-ghost use Rattle.vx_target.specs.Target.{parameters_of, is_call_word, is_caller, is_drain, is_drain_there};
+ghost use Rattle.std.specs.Prelude.{◌≡◌};
+ghost use Rattle.vx_target.specs.Target.{parameters_of, is_call_word, is_caller};
 ghost use Rattle.vx_slots.specs.Seen.{seen};
 
 use vx_flow::graph::Value;
@@ -76,31 +76,6 @@ pub(crate) fn is_caller(whole: &Whole, function: u32) -> bool
         }
     }
     false
-}
-
-/// Whether a word of a layout is one of empty cycles.
-fn is_drain(word: &VirtualWord) -> bool
-    ensures { result ≡ is_drain word.now }
-{
-    match word {
-        VirtualWord::Drain(_) => true,
-        VirtualWord::Planned { .. } => false,
-        VirtualWord::Transfer(_) => false,
-        VirtualWord::Choice { .. } => false,
-        VirtualWord::Call { .. } => false,
-        VirtualWord::Return(_) => false,
-        VirtualWord::Ends(_) => false,
-    }
-}
-
-/// Whether empty cycles stand at a place of a function's layout.
-pub(crate) fn is_drain_at(whole: &Whole, function: u32, place: u32) -> bool
-    ensures { result ≡ is_drain_there (slice_get ((seen whole.now).layout function).words place) }
-{
-    match words_of(whole, function).get(place as usize) {
-        Some(word) => is_drain(word),
-        None => false,
-    }
 }
 
 /// The place at which a function's layout is entered.

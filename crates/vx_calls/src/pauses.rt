@@ -1,12 +1,11 @@
 // How long a pause behind loads of slots has to be: so that each register has landed where the words behind it name it.
 
 ghost use Rattle.std.specs.Prelude.{◌≡◌, ◌∷◌, ◌-◌, [], IfOk};
-ghost use Rattle.std.specs.List.{list_all, list_any};
+ghost use Rattle.std.specs.List.{list_all};
 ghost use Rattle.vx_isa.specs.Operations.{destination_of, latency_of, same};
-ghost use Rattle.vx_target.specs.Target.{all_elsewhere, by_way, flight, follows, is_elsewhere, is_for_values, is_split, is_to, item_elsewhere, landing_of, most_spared, reads_elsewhere, register_of, spared, spared_at, spares, time_to, wanted};
+ghost use Rattle.vx_target.specs.Target.{all_elsewhere, beside_turn, by_way, flight, is_elsewhere, is_for_values, is_to, item_elsewhere, landing_of, most_spared, reads_elsewhere, register_of, spared, spared_at, spares, time_to, turns, wanted};
 ghost use Rattle.vx_slots.specs.Seen.{seen};
 
-use crate::lookups::is_drain_at;
 use vx_base::outcome::NoMemory;
 use vx_base::sizes::sum;
 use vx_flow::graph::Value;
@@ -17,17 +16,10 @@ use vx_machine::Machine;
 use vx_mixed::layout::{Laid, VirtualWord};
 use vx_slots::program::{Whole, words_of};
 use vx_slots::registers::{is_slotted, register_of};
-use vx_slots::ways::past;
+use vx_slots::ways::{follows, has_split, past, turn};
 
 /// The most words of a layout that are looked at.
 const MOST_SPARED: u32 = 16;
-
-/// Whether a place of a layout can follow at once, where another one is next: it is that one, and no empty cycles stand there.
-pub fn follows(whole: &Whole, function: u32, next: u32, to: u32) -> bool
-    ensures { result ≡ follows (seen whole.now) function next to }
-{
-    next == to && !is_drain_at(whole, function, to)
-}
 
 /// Whether both are one register.
 fn is_same(one: Register, other: Register) -> bool
@@ -120,26 +112,6 @@ fn spares(whole: &Whole, function: u32, register: Register, items: &[Laid]) -> b
     is_for_values(register) && all_items_elsewhere(whole, function, register, items)
 }
 
-fn is_split(item: &Laid) -> bool
-    ensures { result ≡ is_split item.now }
-{
-    match item {
-        Laid::Plain { .. } => false,
-        Laid::Split { .. } => true,
-    }
-}
-
-fn has_split(items: &[Laid]) -> bool
-    ensures { result ≡ list_any is_split items.now }
-{
-    for item in items {
-        if is_split(item) {
-            return true;
-        }
-    }
-    false
-}
-
 /// By a word of its own, if it needs one, to a place from which on there is so much time.
 fn by_way(whole: &Whole, function: u32, next: u32, to: u32, cycles: u32) -> Result<u32, NoMemory>
     ensures { IfOk result (λ time. time ≡ by_way (seen whole.now) function next to cycles) }
@@ -148,6 +120,16 @@ fn by_way(whole: &Whole, function: u32, next: u32, to: u32, cycles: u32) -> Resu
         Ok(cycles)
     } else {
         sum(1, cycles)
+    }
+}
+
+/// From behind a word to so many cycles past a place: the goto of that place may stand in the word itself.
+fn beside_turn(whole: &Whole, function: u32, place: u32, cycles: u32) -> Result<u32, NoMemory>
+    ensures { IfOk result (λ time. time ≡ beside_turn (turns (seen whole.now) function place) cycles) }
+{
+    match turn(whole, function, place)? {
+        Some(_) => Ok(cycles.saturating_sub(1)),
+        None => Ok(cycles),
     }
 }
 
@@ -172,7 +154,8 @@ fn spared(
                 Ok(1)
             } else {
                 let next = sum(place, 1)?;
-                sum(1, spared(whole, function, register, most - 1, next)?)
+                let cycles = spared(whole, function, register, most - 1, next)?;
+                sum(1, beside_turn(whole, function, next, cycles)?)
             }
         }
         Some(VirtualWord::Transfer(to)) => {

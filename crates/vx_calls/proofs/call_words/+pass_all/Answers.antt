@@ -1,11 +1,10 @@
 use Rattle.std.proofs.Common.{◌≡◌, ◌++◌, ◌∷◌, [], ℕ, List, sym, ap, ◌∙◌}
-use Rattle.std.proofs.lemmas.List.{nil_from_length}
 use Rattle.std.proofs.lemmas.Result.{IfOk-equal}
 use Rattle.vx_flow.specs.declared.graph.Operand.{Operand}
 use Rattle.vx_isa.specs.declared.operation.Operation.{Operation}
 use Rattle.vx_isa.specs.declared.operation.Operation.TheVariants.{Call}
 use Rattle.vx_isa.specs.declared.program.Word.{Word}
-use Rattle.vx_target.specs.Target.{Target, argument_words, one, passes}
+use Rattle.vx_target.specs.Target.{Target, argument_words, passes}
 use Rattle.vx_slots.specs.Seen.{seen}
 use Rattle.vx_calls.proofs.CallSteps.{passed_more}
 use Rattle.vx_calls.proofs.call_words.+pass_all.Goals as goal
