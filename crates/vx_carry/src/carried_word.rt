@@ -2,9 +2,10 @@
 
 ghost use Rattle.std.specs.Prelude.{◌≡◌, ◌++◌, ◌∷◌, ◌+◌, ◌-◌, [], IfOk, length};
 ghost use Rattle.vx_flow.specs.Effects.{writes};
+ghost use Rattle.vx_isa.specs.declared.operation.Operation.TheVariants.{Goto};
 ghost use Rattle.vx_machine.specs.Items.{latency_of_op};
 ghost use Rattle.vx_mixed.specs.LaidSettled.{laid_reads, laid_writes};
-ghost use Rattle.vx_target.specs.Target.{carried_items, plan_word, plan_words, landing_words, choice_words, slotted, before, behind, if_any, leads, slots_in_flight};
+ghost use Rattle.vx_target.specs.Target.{carried_items, goes_beside, plan_word, plan_words, landing_words, choice_words, slotted, before, behind, if_any, leads, slots_in_flight, with_goto};
 ghost use Rattle.vx_target.specs.Placed.{item_landings, words_of};
 ghost use Rattle.vx_slots.specs.Seen.{seen};
 ghost use Rattle.vx_carry.specs.Planning.{IsPlan};
@@ -14,11 +15,13 @@ use crate::lookups::landing;
 use crate::operations::carried;
 use crate::word_plan::{Plan, Site};
 use std::alloc::Global;
-use vx_base::listed::Listed;
+use vx_base::listed::{Listed, with_item};
 use vx_base::outcome::NoMemory;
+use vx_base::sizes::sum;
 use vx_flow::graph::{Op, Value};
 use vx_isa::operation::Operation;
 use vx_isa::program::Word;
+use vx_machine::fits;
 use vx_machine::items::Item;
 use vx_mixed::layout::Laid;
 use vx_regs::touches::{read_by, written, written_by};
@@ -26,7 +29,7 @@ use vx_slots::numbers::MOST_NAMES;
 use vx_slots::program::{SplitLanding, Whole, start};
 use vx_slots::registers::{branch_of, is_slotted, once, slotted};
 use vx_slots::transfers::{load_slots, push_one, push_pause, push_wait, store_slots};
-use vx_slots::ways::past;
+use vx_slots::ways::{has_split, past, turn};
 
 /// How many cycles behind its word the result of an operation is in flight, where it goes to a slot; else 0.
 fn slot_in_flight(whole: &Whole, function: u32, op: &Op) -> u32
@@ -149,14 +152,65 @@ fn push_items(
     }
 }
 
+/// Whether a planned word can go on by itself: it has no split and leaves nothing for slots, and the machine has room for the word
+/// that has the goto beside its operations.
+#[tactic(auto, using(crate::proofs::Turning::nothing_left))]
+fn goes_beside(whole: &Whole, plan: &Plan, word: &Word) -> bool
+    requires { IsPlan (seen whole.now) plan.now }
+    ensures { result ≡ goes_beside (seen whole.now) plan.now.function plan.now.items.now word.now.ops }
+{
+    !has_split(plan.items) && plan.left.is_empty() && fits(whole.machine, word)
+}
+
+/// A word of some operations, and the goto to a place beside them.
+fn going_to(
+    alloc: Global,
+    whole: &Whole,
+    function: u32,
+    ops: &[Operation],
+    to: u32,
+) -> Result<Word, NoMemory>
+    ensures { IfOk result (λ word. word ≡ record { ops = ops.now ++ Goto ((seen whole.now).starts function to) ∷ []; idle = 0 }) }
+{
+    let target = start(whole, function, to);
+    let longer = with_item(alloc, ops, Operation::Goto { target })?;
+    Ok(Word {
+        ops: longer,
+        idle: 0,
+    })
+}
+
+/// The word of a planned one's operations, and the goto beside them that would be the next word, where it can stand there.
+#[tactic(auto, using(crate::proofs::Turning::goes_on, crate::proofs::Turning::stays))]
+fn with_goto(
+    alloc: Global,
+    whole: &Whole,
+    plan: &Plan,
+    ops: Listed<Operation>,
+    turn: Option<u32>,
+) -> Result<Word, NoMemory>
+    requires { IsPlan (seen whole.now) plan.now }
+    ensures { IfOk result (λ word. word ≡ record { ops = with_goto (seen whole.now) plan.now.function plan.now.items.now ops turn; idle = 0 }) }
+{
+    if let Some(to) = turn {
+        let word = going_to(alloc, whole, plan.function, ops.as_slice(), to)?;
+        if goes_beside(whole, plan, &word) {
+            return Ok(word);
+        }
+    }
+    Ok(Word { ops, idle: 0 })
+}
+
 /// The word that carries a planned one.
 fn plan_word(alloc: Global, whole: &Whole, plan: &Plan) -> Result<Word, NoMemory>
     requires { IsPlan (seen whole.now) plan.now }
     ensures { IfOk result (λ word. word ≡ plan_word (seen whole.now) plan.now.function plan.now.place plan.now.items.now) }
 {
+    let next = sum(plan.place, 1)?;
+    let to = turn(whole, plan.function, next)?;
     let mut ops = Listed::new(alloc);
     push_items(whole, plan, plan.items, &mut ops)?;
-    Ok(Word { ops, idle: 0 })
+    with_goto(alloc, whole, plan, ops, to)
 }
 
 /// Brings those of some values that are in slots to their scratch registers, each once, and waits for them.
