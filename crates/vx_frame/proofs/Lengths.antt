@@ -20,7 +20,7 @@ use Rattle.vx_mixed.specs.declared.layout.Laid.TheVariants.{Plain, Split}
 use Rattle.vx_mixed.specs.declared.layout.VirtualWord.{VirtualWord}
 use Rattle.vx_mixed.specs.declared.layout.VirtualWord.TheVariants.{Planned, Drain, Transfer, Choice, Call as Calls, Return as Returns, Ends}
 use Rattle.vx_mixed.specs.LaidSettled.{laid_reads, laid_writes}
-use Rattle.vx_target.specs.Target.{Target, answer, bytes, one, set_stack, start_words, stack_on, stack_steps, move_stack, leave_or_lower, parameters_of, slotted, general_of, branch_of, register_of, is_split, spares, by_way, spared_at, spared, most_spared, flight, time_to, wanted, begin_words, load_slot, store_slot, load_slots, store_slots, if_some, once, pause, settled, if_any, slots_in_flight, before, behind, plan_word, plan_words, past, landing_words, fetch_words, passes, calls_beside, store_or_call, argument_words, result_words, save_words, reload_words, call_words, back_words, return_words, follows, way, link_words, entry_words, word_words}
+use Rattle.vx_target.specs.Target.{Target, answer, bytes, one, set_stack, start_words, stack_on, stack_steps, move_stack, leave_or_lower, parameters_of, slotted, general_of, branch_of, register_of, is_split, spares, turns, beside_turn, by_way, spared_at, spared, most_spared, flight, time_to, wanted, begin_words, load_slot, store_slot, load_slots, store_slots, if_some, once, pause, settled, if_any, slots_in_flight, before, behind, plan_word, plan_words, past, landing_words, fetch_words, passes, calls_beside, store_or_call, argument_words, result_words, save_words, reload_words, call_words, back_words, return_words, follows, way, link_words, entry_words, word_words}
 use Rattle.vx_target.specs.Placed.{landing_of, item_landings, word_landings, words_of}
 use Rattle.vx_frame.specs.Placing.{Spots, at_spots}
 use Rattle.vx_frame.proofs.Emitting.{words_of_append}
@@ -92,7 +92,7 @@ return_same T s f Stack = refl
 
 spared_at_same : (T : Target) (s : Spots) (f : ℕ) (r : Register) (p : ℕ) (on more : ℕ → ℕ) (o : Option VirtualWord) → ((q : ℕ) → on q ≡ more q) → spared_at (at_spots T s) f r p on o ≡ spared_at T f r p more o
 spared_at_same T s f r p on more None h = refl
-spared_at_same T s f r p on more (Some (Planned rg w items)) h = ap (λ n. if spares T f r items then (if list_any is_split items then 1 else suc n) else 0) (h (p + 1))
+spared_at_same T s f r p on more (Some (Planned rg w items)) h = ap (λ n. if spares T f r items then (if list_any is_split items then 1 else suc (beside_turn (turns T f (p + 1)) n)) else 0) (h (p + 1))
 spared_at_same T s f r p on more (Some (Drain n)) h = refl
 spared_at_same T s f r p on more (Some (Transfer q)) h = ap (by_way T f (p + 1) (past T f q)) (h (past T f q))
 spared_at_same T s f r p on more (Some (Choice test q)) h = refl

@@ -4,7 +4,7 @@
 ghost use Rattle.std.specs.Prelude.{◌≡◌, ◌<◌, ◌≤◌, ◌++◌, ◌+◌, ◌-◌, ◌∷◌, ℕ, [], if◌then◌else◌, IfOk, length};
 ghost use Rattle.vx_mixed.specs.declared.layout.VirtualWord.TheVariants.{Call};
 ghost use Rattle.vx_mixed.specs.LaidSettled.{laid_reads};
-ghost use Rattle.vx_target.specs.Target.{before, pause, plan_words, start_words, turns, turns_word, waits, word_words};
+ghost use Rattle.vx_target.specs.Target.{before, pause, plan_words, start_words, turns, waits, word_words};
 ghost use Rattle.vx_target.specs.Placed.{laid_pieces, word_landings, landing_pieces, function_pieces, functions_pieces, all_pieces, words_of, IsPlaced};
 ghost use Rattle.vx_frame.specs.Placing.{starts_from, word_spots, landings_from, mark_of, marks_from, places_at, all_places, functions_begin, functions_end, at_spots, spots_of, standing, WaysDiffer};
 ghost use Rattle.vx_slots.specs.declared.program.FunctionPlaces.{FunctionPlaces as ThePlaces};
@@ -15,7 +15,6 @@ use vx_base::listed::Listed;
 use vx_base::outcome::{NoMemory, Trap};
 use vx_base::sizes::sum;
 use vx_calls::call_words::{push_back, push_call, push_entry, push_return, push_start, push_way};
-use vx_calls::pauses::follows;
 use vx_carry::carried_word::{plan_of, push_choice, push_item_landings, push_plan};
 use vx_flow::graph::{Operand, Value};
 use vx_isa::operation::Operation;
@@ -23,7 +22,7 @@ use vx_isa::program::Word;
 use vx_mixed::layout::{Laid, VirtualWord};
 use vx_slots::program::{FunctionPlaces, Sizes, SplitLanding, Whole, words_of};
 use vx_slots::transfers::{push_idle, push_one, push_pause};
-use vx_slots::ways::past;
+use vx_slots::ways::{past, turn};
 
 /// The words of a program, and where they stand.
 #[derive(Drop)]
@@ -32,31 +31,6 @@ pub(crate) struct Pieces {
     pub(crate) places: Listed<FunctionPlaces>,
     /// The place of the trap by which a call that is one too many ends.
     pub(crate) depth_trap: u32,
-}
-
-/// Whether a word of a layout at a place goes to another one by a word of its own.
-fn turns(whole: &Whole, function: u32, place: u32, word: &VirtualWord) -> Result<bool, NoMemory>
-    ensures { IfOk result (λ turned. turned ≡ turns_word (seen whole.now) function place word.now) }
-{
-    match word {
-        VirtualWord::Transfer(to) => Ok(!follows(
-            whole,
-            function,
-            sum(place, 1)?,
-            past(whole, function, *to),
-        )),
-        _ => Ok(false),
-    }
-}
-
-/// Whether the word at a place of a function's layout does.
-fn turns_at(whole: &Whole, function: u32, place: u32) -> Result<bool, NoMemory>
-    ensures { IfOk result (λ turned. turned ≡ turns (seen whole.now) function place) }
-{
-    match words_of(whole, function).get(place as usize) {
-        Some(word) => turns(whole, function, place, word),
-        None => Ok(false),
-    }
 }
 
 /// Empty cycles before a place of a layout; where a goto stands behind them, it is the last of them.
@@ -70,10 +44,10 @@ fn push_idles(
 ) -> Result<(), NoMemory>
     ensures { IfOk result (λ _. words.new ≡ words.old ++ (if turns (seen whole.now) function next then pause (cycles - 1) else waits cycles ∷ [])) }
 {
-    if turns_at(whole, function, next)? {
-        return push_pause(alloc, cycles.saturating_sub(1), words);
+    match turn(whole, function, next)? {
+        Some(_) => push_pause(alloc, cycles.saturating_sub(1), words),
+        None => push_idle(alloc, cycles, words),
     }
-    push_idle(alloc, cycles, words)
 }
 
 /// The words that carry a planned one; gives the place of its operations.
