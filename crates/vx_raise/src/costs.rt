@@ -12,6 +12,9 @@ use vx_flow::graph::BlockId;
 /// The most steps at the end of a block off the path whose plan is estimated.
 const MOST_STEPS: usize = 40;
 
+/// Costs are counted in parts of cycles.
+const PARTS: u64 = 64;
+
 /// A trace of blocks of a turn, from the first place to before the last, and its plan.
 #[derive(Clone, Copy)]
 struct Trace<'a> {
@@ -21,7 +24,7 @@ struct Trace<'a> {
     end: usize,
 }
 
-/// The cycles that the turns of a loop take in all, trace by trace.
+/// The cycles that the turns of a loop take in all, trace by trace, in parts.
 pub(crate) fn cost_of(
     alloc: Global,
     ground: &Ground,
@@ -107,11 +110,24 @@ fn cost_of_steps(trace: &Trace, stops: &[Stop]) -> u64 {
         let times = leaves_at(step, stops, trace.start).min(left);
         if times > 0 {
             let cycles = cycles_to(trace.steps, words, number_at(words, place));
-            cost = cost.saturating_add(times.saturating_mul(cycles as u64));
+            cost = cost.saturating_add(parts(times, cycles));
             left = left.saturating_sub(times);
         }
     }
-    cost.saturating_add(left.saturating_mul(trace.plan.cycles as u64))
+    cost.saturating_add(left.saturating_mul(parts_of_turn(trace.plan)))
+}
+
+/// The parts of so many cycles, so many times.
+fn parts(times: u64, cycles: u32) -> u64 {
+    times.saturating_mul(cycles as u64).saturating_mul(PARTS)
+}
+
+/// The parts of a turn. Of two that take as long the one is less of which the way on would be as short in a word of its own: a step
+/// towards it may gain nothing yet.
+fn parts_of_turn(plan: &Plan) -> u64 {
+    let cycles = plan.cycles as u64;
+    let apart = plan.apart as u64;
+    cycles.saturating_mul(PARTS - 1).saturating_add(apart)
 }
 
 /// How often the path is left at a step.
@@ -146,7 +162,7 @@ fn cost_of_others(
                 0
             };
             let cycles = own.saturating_add(rest);
-            cost = cost.saturating_add(stop.weight.saturating_mul(cycles as u64));
+            cost = cost.saturating_add(parts(stop.weight, cycles));
         }
     }
     Ok(cost)
@@ -168,7 +184,7 @@ fn cost_of_outs(
             let own = steps_of(alloc, ground, sketch, &[stop.block])?;
             steps.extend_from_slice(own.as_slice())?;
             let cycles = cycles_of_steps(alloc, ground, sketch, steps.as_slice())?;
-            cost = cost.saturating_add(stop.weight.saturating_mul(cycles as u64));
+            cost = cost.saturating_add(parts(stop.weight, cycles));
         }
     }
     Ok(cost)

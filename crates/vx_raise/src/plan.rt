@@ -36,6 +36,8 @@ pub(crate) struct Plan {
     pub words: Vec<u32>,
     pub tails: Vec<u32>,
     pub cycles: u32,
+    /// The same if the way on had a word of its own.
+    pub apart: u32,
 }
 
 /// By how many words a step has to stand behind one above it.
@@ -143,35 +145,44 @@ pub(crate) fn plan_of(
 ) -> Result<Plan, NoMemory> {
     let delays = delays_of(alloc, ground, sketch, steps)?;
     let tails = tails_of(alloc, steps, &delays)?;
-    let words = words_by(alloc, ground.units, steps, &delays)?;
-    let cycles = cycles_of(steps, words.as_slice());
+    let laid = laid_by(alloc, ground.units, steps, &delays)?;
+    let cycles = cycles_of(ground.units, steps, &laid);
+    let apart = cycles.max(as_number(laid.used.len()).saturating_add(1));
     Ok(Plan {
-        words,
+        words: laid.words,
         tails,
         cycles,
+        apart,
     })
 }
 
 /// Marks a step that has no word yet.
 const NO_WORD: u32 = 4294967295;
 
-fn words_by(
+/// The word of each step, and what stands in each word.
+#[derive(Drop)]
+struct LaidSteps {
+    words: Vec<u32>,
+    used: Vec<Used>,
+}
+
+fn laid_by(
     alloc: Global,
     units: &Units,
     steps: &[Step],
     delays: &Delays,
-) -> Result<Vec<u32>, NoMemory> {
+) -> Result<LaidSteps, NoMemory> {
     let heights = heights_of(alloc, delays, steps.len())?;
-    words_of(alloc, units, steps, delays, heights.as_slice())
+    laid_of(alloc, units, steps, delays, heights.as_slice())
 }
 
-fn words_of(
+fn laid_of(
     alloc: Global,
     units: &Units,
     steps: &[Step],
     delays: &Delays,
     heights: &[u32],
-) -> Result<Vec<u32>, NoMemory> {
+) -> Result<LaidSteps, NoMemory> {
     let mut words = vec![in alloc; NO_WORD; steps.len()]?;
     let mut ready = vec![in alloc; 0u32; steps.len()]?;
     let mut used = Vec::new(alloc);
@@ -189,7 +200,7 @@ fn words_of(
             None => {}
         }
     }
-    Ok(words)
+    Ok(LaidSteps { words, used })
 }
 
 /// The step with the greatest height among those without a word, the first of several.
@@ -286,16 +297,26 @@ fn with_step(used: Used, step: &Step) -> Used {
     }
 }
 
-/// One word more for the way on, and none before all results have landed.
-fn cycles_of(steps: &[Step], words: &[u32]) -> u32 {
-    let mut cycles = 1u32;
-    for (place, word) in words.iter().enumerate() {
-        match steps.get(place) {
-            Some(step) => cycles = cycles.max(word.saturating_add(step.latency.max(2))),
-            None => {}
-        }
+/// The way on begins when all results have landed. Its goto is the last cycle in which one is in flight, or stands in the last word, or,
+/// where that has a split or no room, in a word of its own.
+fn cycles_of(units: &Units, steps: &[Step], laid: &LaidSteps) -> u32 {
+    let count = as_number(laid.used.len());
+    let landed = landed_behind(steps, laid.words.as_slice(), u32::MAX).max(count);
+    if landed > count || goes_beside(units, laid.used.as_slice()) {
+        landed
+    } else {
+        count.saturating_add(1)
     }
-    cycles
+}
+
+/// Whether the last word has no split, and room for a goto.
+fn goes_beside(units: &Units, used: &[Used]) -> bool {
+    match used.last() {
+        Some(last) => {
+            last.splits == 0 && last.slots < units.slots && last.first_slots < units.first_slots
+        }
+        None => false,
+    }
 }
 
 /// The cycles until the row is left by a split that stands in a word: the way on begins at once where all results have landed.

@@ -11,7 +11,7 @@ use vx_profile::counts::Counts;
 /// The most blocks of a turn, and the most operations.
 const MOST_BLOCKS: usize = 32;
 
-const MOST_OPERATIONS: usize = 72;
+const MOST_OPERATIONS: usize = 160;
 
 /// How often blocks and edges are taken to be passed in a function that was not counted: blocks and edges of a loop, others.
 const OFTEN: u64 = 8;
