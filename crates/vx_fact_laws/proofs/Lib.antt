@@ -1,0 +1,3 @@
+mod FactSteps
+mod CallFacts
+mod CountRows
