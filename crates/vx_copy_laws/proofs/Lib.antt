@@ -1,0 +1,10 @@
+pub mod Members
+pub mod CopiedFor
+pub mod Serving
+pub mod PieceFacts
+pub mod Joining
+pub mod Standing
+pub mod SameHomes
+pub mod Orders
+pub mod OneTrace
+pub mod Rows

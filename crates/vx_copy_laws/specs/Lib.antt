@@ -1,0 +1,3 @@
+pub mod CopyStands
+pub mod CopyLaws
+pub mod CopiesExample
