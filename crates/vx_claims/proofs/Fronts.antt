@@ -1,5 +1,5 @@
 -- Lists that are gone over: the item in front, and the item that comes next.
-use Rattle.std.proofs.Common.{◌≡◌, ℕ, ◌+◌, ◌-◌, ◌<◌, ◌≤◌, ◌==◌, ◌&&◌, ◌⊎◌, inl, inr, Bool, true, false, List, [], ◌∷◌, ◌++◌, length, take, drop, get_or, Some, None, sym, ap, ◌∙◌, arith}
+use Rattle.std.proofs.Common.{◌≡◌, ℕ, zero, suc, ◌+◌, ◌-◌, ◌<◌, ◌≤◌, ◌==◌, ◌&&◌, ◌||◌, ◌⊎◌, inl, inr, Bool, true, false, List, [], ◌∷◌, ◌++◌, length, take, drop, get_or, Some, None, refl, sym, ap, ◌∙◌, arith}
 use Rattle.std.proofs.lemmas.Bool.Decides.{eqb_tells}
 use Rattle.std.proofs.lemmas.List.{append_assoc, take_all, take_more}
 use Rattle.vx_base.specs.declared.arithmetic.Code.{Code}
@@ -10,7 +10,7 @@ use Rattle.vx_claims.specs.declared.fact.Fact.{Fact}
 use Rattle.vx_claims.specs.declared.fact.Fact.TheVariants.{Between, Congruent, Equals, Never}
 use Rattle.vx_claims.specs.declared.access.Access.{Access}
 use Rattle.vx_claims.specs.declared.access.Access.TheVariants.{Placed}
-use Rattle.vx_claims.specs.Facts.{range, residue, finer_if, meet, meet_if, decided_by, decided_if, first_of, found, found_if, same_code, same_operand}
+use Rattle.vx_claims.specs.Facts.{is_claimed, has_equals, range, residue, finer_if, meet, meet_if, decided_by, decided_if, first_of, found, found_if, same_code, same_operand}
 use Rattle.vx_claims.specs.Residues.{finer}
 use Rattle.vx_claims.specs.Accesses.{first_or, place_in, value_if}
 
@@ -25,6 +25,10 @@ put_front (x ∷ xs) old mid new d n m e = e ∙ ap (λ l. x ∷ l) (m ∙ ap (�
 pub pushed : {X : Type 0} (start list new all : List X) (i : ℕ) (d : X) → list ≡ start ++ take i all → new ≡ list ++ get_or all i d ∷ [] → i < length all → new ≡ start ++ take (i + 1) all
 pushed start list new all i d e p n =
     p ∙ ap (λ l. l ++ get_or all i d ∷ []) e ∙ append_assoc start (take i all) (get_or all i d ∷ []) ∙ ap (λ l. start ++ l) (sym (take_more all i d n))
+
+either_true : (s t : Bool) → t ≡ true → (s || t) ≡ true
+either_true true t h = refl
+either_true false t h = h
 
 -- ---- where a value lies and what its low bits are
 
@@ -93,3 +97,20 @@ same_test b i s t e h = h ∙ ap (λ x. x && s) (sym (are_equal b i e))
 
 pub other_test : (b i : ℕ) (s t : Bool) → (b ≡ i → ⊥) → t ≡ (b == i) → t ≡ ((b == i) && s)
 other_test b i s t n h = h ∙ not_equal b i n ∙ ap (λ x. x && s) (sym (not_equal b i n))
+
+-- ---- whether a value holds what an operation gives
+
+pub equals_at : (fs : List Fact) (i : ℕ) (d : Fact) (v : ℕ) (code : Code) (a b : Operand) → i < length fs → is_claimed v code a b (get_or fs i d) ≡ true → has_equals fs v code a b ≡ true
+equals_at [] i d v code a b n h = absurd (omega (arith, n))
+equals_at (f ∷ fs) zero d v code a b n h = ap (λ t. t || has_equals fs v code a b) h
+equals_at (f ∷ fs) (suc i) d v code a b n h = either_true (is_claimed v code a b f) (has_equals fs v code a b) (equals_at fs i d v code a b (omega (arith, n)) h)
+
+pub equals_behind : (k : ℕ) (fs : List Fact) (v : ℕ) (code : Code) (a b : Operand) → has_equals (drop k fs) v code a b ≡ true → has_equals fs v code a b ≡ true
+equals_behind zero fs v code a b h = h
+equals_behind (suc k) [] v code a b h = h
+equals_behind (suc k) (f ∷ fs) v code a b h = either_true (is_claimed v code a b f) (has_equals fs v code a b) (equals_behind k fs v code a b h)
+
+pub not_all : (r s t u : Bool) → u ≡ t → u ≡ false → u ≡ (r && (s && t))
+not_all false s t u e h = h
+not_all true false t u e h = h
+not_all true true t u e h = e

@@ -1,5 +1,5 @@
 -- What is known behind an operation, as it is kept in place.
-use Rattle.std.proofs.Common.{◌≡◌, ℕ, zero, suc, Bool, true, false, ◌||◌, ◌==◌, pos, List, [], ◌∷◌, ◌++◌, Option, Some, None, refl, sym, ap, ◌∙◌}
+use Rattle.std.proofs.Common.{◌≡◌, ℕ, zero, suc, ◌≤◌, Bool, true, false, ◌||◌, ◌==◌, pos, List, [], ◌∷◌, ◌++◌, length, Option, Some, None, refl, sym, ap, ◌∙◌, arith}
 use Rattle.std.specs.List.{list_any}
 use Rattle.std.specs.Option.{option_to_list}
 use Rattle.std.proofs.lemmas.List.{append_assoc, append-nil}
@@ -95,6 +95,14 @@ none_named v (f ∷ fs) h = by (names v f) h (none_named v fs)
     by false e k = ap (λ x. f ∷ x) (k e)
 
 -- ---- the newest facts
+
+pub few_facts : (left : ℕ) (fs : List Fact) → length fs ≤ left → has_more left fs ≡ false
+few_facts left [] h = refl
+few_facts left (Between v i ∷ fs) h = few_facts left fs (omega (arith, h))
+few_facts left (Congruent v c ∷ fs) h = few_facts left fs (omega (arith, h))
+few_facts left (Never ∷ fs) h = few_facts left fs (omega (arith, h))
+few_facts zero (Equals v code a b ∷ fs) h = absurd (omega (arith, h))
+few_facts (suc left) (Equals v code a b ∷ fs) h = few_facts left fs (omega (arith, h))
 
 pub all_kept : (left : ℕ) (fs : List Fact) → has_more left fs ≡ false → fs ≡ newest left fs
 all_kept left [] h = refl

@@ -24,7 +24,7 @@ pub fn known_behind(
     ensures facts { IfOk result (λ behind. behind.facts ≡ after_from arrays.now claims.now accesses.now ops.now) }
     ensures accesses { IfOk result (λ behind. behind.accesses ≡ accessed_from arrays.now claims.now accesses.now ops.now) }
 {
-    let mut facts = claims.to_vec(alloc)?;
+    let mut facts = with_room(alloc, claims, ops.len())?;
     let mut known = copied_accesses(alloc, accesses)?;
     for op in ops {
         let form = form(facts.as_slice(), known.as_slice(), op);
@@ -35,4 +35,14 @@ pub fn known_behind(
         facts: Listed::from_vec(facts)?,
         accesses: known,
     })
+}
+
+/// A list of these facts, with room for what so many operations say.
+pub fn with_room(alloc: Global, facts: &[Fact], ops: usize) -> Result<Vec<Fact>, NoMemory>
+    ensures { IfOk result (λ copy. copy.items ≡ facts.now) }
+{
+    let room = ops.saturating_mul(2).saturating_add(facts.len());
+    let mut copy = Vec::with_capacity(alloc, room)?;
+    copy.extend_from_slice(facts)?;
+    Ok(copy)
 }

@@ -250,15 +250,6 @@ pub fn append_newest(list: &mut Listed<Fact>, facts: &[Fact], left: usize) -> Re
     }
 }
 
-fn append_all(list: &mut Listed<Fact>, facts: &[Fact]) -> Result<(), NoMemory>
-    ensures { IfOk result (λ _. list.new ≡ list.old ++ facts.now) }
-{
-    for fact in facts {
-        list.push(*fact)?;
-    }
-    Ok(())
-}
-
 fn append_between(
     list: &mut Listed<Fact>,
     operand: Operand,
@@ -348,6 +339,15 @@ fn append_learned(
     Ok(())
 }
 
+/// A list with facts behind it.
+fn with_facts(list: Listed<Fact>, facts: &[Fact]) -> Result<Listed<Fact>, NoMemory>
+    ensures { IfOk result (λ longer. longer ≡ list ++ facts.now) }
+{
+    let mut longer = list.into_vec();
+    longer.extend_from_slice(facts)?;
+    Ok(Listed::from_vec(longer)?)
+}
+
 /// The facts on the side of a split where its test has an answer.
 pub fn on_side(
     alloc: Global,
@@ -357,8 +357,7 @@ pub fn on_side(
 ) -> Result<Listed<Fact>, NoMemory>
     ensures { IfOk result (λ there. there ≡ on_side facts.now answer test) }
 {
-    let mut there = Listed::new(alloc);
+    let mut there = Listed::from_vec(Vec::with_capacity(alloc, facts.len().saturating_add(2))?)?;
     append_learned(&mut there, facts, answer, test)?;
-    append_all(&mut there, facts)?;
-    Ok(there)
+    with_facts(there, facts)
 }

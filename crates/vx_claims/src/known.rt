@@ -1,6 +1,6 @@
 // What lists of facts say: where a value lies and what its low bits are, whether a value holds what an operation gives, and how a test comes out.
 
-ghost use Rattle.std.specs.Prelude.{◌≡◌, pos, ◌+ℤ◌, ◌-ℤ◌};
+ghost use Rattle.std.specs.Prelude.{◌≡◌, ◌&&◌, true, pos, drop, ◌+ℤ◌, ◌-ℤ◌, IfSome};
 ghost use Rattle.vx_claims.specs.Facts.{decided, decided_by, decided_if, found, has_equals, is_claimed, meet, number_or, range, range_of, residue, residue_of, residue_within, rounded, same_code, same_compare, same_operand};
 ghost use Rattle.vx_base.specs.Arithmetic.{difference_of};
 ghost use Rattle.vx_claims.specs.Residues.{finer, low_bits};
@@ -271,6 +271,73 @@ pub fn has_equals(facts: &[Fact], value: Value, code: Code, left: Operand, right
     false
 }
 
+/// How many facts of a list there are up to the first that says that a value holds what an operation gives.
+fn past_equals(
+    facts: &[Fact],
+    value: Value,
+    code: Code,
+    left: Operand,
+    right: Operand,
+) -> Option<usize>
+    ensures { IfSome result (λ _. has_equals facts.now value code left right ≡ true) }
+{
+    let mut past: usize = 0;
+    for fact in facts {
+        past = past.saturating_add(1);
+        if is_claimed(value, code, left, right, *fact) {
+            return Some(past);
+        }
+    }
+    None
+}
+
+/// The facts from a place on.
+fn from_place(facts: &[Fact], place: usize) -> &[Fact]
+    ensures { result.now ≡ drop place facts.now }
+{
+    if place <= facts.len() {
+        &facts[place..]
+    } else {
+        &[]
+    }
+}
+
+/// The same as `has_equals`, which looks first from a place on: what is claimed stands mostly in the order of the facts. The place is
+/// then the one behind the fact that was found.
+#[tactic(auto, using(crate::proofs::Fronts::equals_behind))]
+fn has_equals_near(
+    facts: &[Fact],
+    place: &mut usize,
+    value: Value,
+    code: Code,
+    left: Operand,
+    right: Operand,
+) -> bool
+    ensures { result ≡ has_equals facts.now value code left right }
+{
+    match past_equals(from_place(facts, *place), value, code, left, right) {
+        Some(past) => {
+            *place = place.saturating_add(past);
+            true
+        }
+        None => has_equals(facts, value, code, left, right),
+    }
+}
+
+/// Whether one operation gives what another one does, by their codes and operands. Codes differ least often.
+fn is_made_so(
+    other: Code,
+    one: Operand,
+    two: Operand,
+    code: Code,
+    left: Operand,
+    right: Operand,
+) -> bool
+    ensures { result ≡ (same_code other code && (same_operand one left && same_operand two right)) }
+{
+    same_operand(two, right) && (same_operand(one, left) && same_code(other, code))
+}
+
 /// A value that holds what an operation gives.
 pub fn found(facts: &[Fact], code: Code, left: Operand, right: Operand) -> Option<Value>
     ensures { result ≡ found facts.now code left right }
@@ -284,7 +351,7 @@ pub fn found(facts: &[Fact], code: Code, left: Operand, right: Operand) -> Optio
                 left: one,
                 right: two,
             } => {
-                if same_code(other, code) && (same_operand(one, left) && same_operand(two, right)) {
+                if is_made_so(other, one, two, code, left, right) {
                     return Some(value);
                 }
             }
@@ -311,23 +378,21 @@ fn decided_if(test: bool, facts: &[Fact], code: Code, left: Operand, right: Oper
 fn decided_by(facts: &[Fact], test: Value, rest: &[Fact]) -> Option<bool>
     ensures { result ≡ decided_by facts.now test rest.now }
 {
-    match rest {
-        [] => None,
-        [first, rest @ ..] => match *first {
-            Fact::Between { .. } | Fact::Congruent { .. } | Fact::Never => {
-                decided_by(facts, test, rest)
-            }
+    for fact in rest {
+        match *fact {
+            Fact::Between { .. } | Fact::Congruent { .. } | Fact::Never => {}
             Fact::Equals {
                 value,
                 code,
                 left,
                 right,
             } => match decided_if(value == test, facts, code, left, right) {
-                Some(answer) => Some(answer),
-                None => decided_by(facts, test, rest),
+                Some(answer) => return Some(answer),
+                None => {}
             },
-        },
+        }
     }
+    None
 }
 
 /// How a test comes out, where the facts decide it.
@@ -344,7 +409,8 @@ pub fn is_inside(i: Interval, j: Interval) -> bool
     j.low <= i.low && i.high <= j.high
 }
 
-fn gives(facts: &[Fact], claim: Fact) -> bool
+/// Whether the facts give a claim. What an operation gives is looked for from a place on first.
+fn gives(facts: &[Fact], place: &mut usize, claim: Fact) -> bool
     ensures { result ≡ gives facts.now claim }
 {
     match claim {
@@ -359,7 +425,7 @@ fn gives(facts: &[Fact], claim: Fact) -> bool
             code,
             left,
             right,
-        } => has_equals(facts, value, code, left, right),
+        } => has_equals_near(facts, place, value, code, left, right),
         Fact::Never => false,
     }
 }
@@ -368,8 +434,9 @@ fn gives(facts: &[Fact], claim: Fact) -> bool
 pub fn give(facts: &[Fact], claims: &[Fact]) -> bool
     ensures { result ≡ give facts.now claims.now }
 {
+    let mut place: usize = 0;
     for claim in claims {
-        if !gives(facts, *claim) {
+        if !gives(facts, &mut place, *claim) {
             return false;
         }
     }

@@ -149,11 +149,19 @@ fn put_before(facts: &mut Vec<Fact>, said: &[Fact]) -> Result<(), NoMemory>
 fn keep_newest(alloc: Global, facts: &mut Vec<Fact>) -> Result<(), NoMemory>
     ensures { IfOk result (λ _. facts.new.items ≡ newest most_equals facts.old.items) }
 {
-    if has_more(facts.as_slice(), MOST_EQUALS) {
+    if is_over(facts.as_slice()) {
         cut(alloc, facts)
     } else {
         Ok(())
     }
+}
+
+/// Whether there are more facts on what operations give than are kept.
+#[tactic(auto, using(crate::proofs::Kept::few_facts))]
+fn is_over(facts: &[Fact]) -> bool
+    ensures { result ≡ has_more most_equals facts.now }
+{
+    facts.len() > MOST_EQUALS && has_more(facts, MOST_EQUALS)
 }
 
 /// The same for a list that has more: most often it is the last one that goes.

@@ -1,4 +1,4 @@
-use Rattle.std.proofs.Common.{◌≡◌, ℕ, ◌==◌, Bool, ℤ, pos, ◌+ℤ◌, ◌-ℤ◌, to_z, of_z, w32, ap, sym, rules, ◌∙◌}
+use Rattle.std.proofs.Common.{◌≡◌, ℕ, Bool, ℤ, pos, ◌+ℤ◌, ◌-ℤ◌, to_z, of_z, w32, ap, sym, rules, ◌∙◌}
 use Rattle.vx_base.specs.Arithmetic.{difference_of}
 use Rattle.vx_claims.specs.declared.intervals.Interval.{Interval}
 use Rattle.vx_claims.specs.declared.residues.Residue.{Residue}
