@@ -3,8 +3,8 @@
 
 ghost use Rattle.std.specs.Prelude.{◌≡◌, IfOk, length};
 
+use crate::shared::Shared;
 use std::alloc::Global;
-use vx_base::arithmetic::Code;
 use vx_base::listed::Listed;
 use vx_base::outcome::NoMemory;
 use vx_claims::access::{Access, tell};
@@ -12,13 +12,13 @@ use vx_claims::behind::known_behind;
 use vx_claims::claim::{Claim, accesses_in, facts_in};
 use vx_claims::effects::without;
 use vx_claims::fact::Fact;
-use vx_claims::known::{give, is_never};
+use vx_claims::known::is_never;
 use vx_flow::arrays::{has_base, is_own_array};
 use vx_flow::graph::{Array, ArrayId, Block, BlockId, Exit, Graph, Value};
 use vx_loops::{Loops, entries_at, loops_of};
 
 /// How many of the facts and of what is known of arrays are looked at at most, the newest first.
-const MOST: usize = 48;
+pub(crate) const MOST: usize = 48;
 
 /// Blocks of more operations hand nothing on.
 const LONGEST: usize = 64;
@@ -53,8 +53,18 @@ fn inherit_along(
     ensures { IfOk result (λ _. length claims.new.items ≡ length claims.old.items) }
 {
     let mut ends = nothing_everywhere(alloc, graph.blocks.len())?;
+    let mut shared = Shared::new(alloc, graph.banks.len())?;
     for place in order {
-        inherit_at(alloc, claims, loops, &mut ends, graph, *place, joins)?;
+        inherit_at(
+            alloc,
+            claims,
+            loops,
+            &mut ends,
+            &mut shared,
+            graph,
+            *place,
+            joins,
+        )?;
     }
     Ok(())
 }
@@ -65,6 +75,7 @@ fn inherit_at(
     claims: &mut Vec<Claim>,
     loops: &mut Loops,
     ends: &mut Vec<Claim>,
+    shared: &mut Shared,
     graph: &Graph,
     place: BlockId,
     joins: bool,
@@ -74,7 +85,9 @@ fn inherit_at(
     let blocks = graph.blocks.as_slice();
     match blocks.get(place as usize) {
         Some(block) => {
-            take_if(alloc, claims, loops, ends.as_slice(), graph, place, joins)?;
+            if joins || loops.is_single(place) {
+                take_over(alloc, claims, loops, ends.as_slice(), shared, graph, place)?;
+            }
             let end = end_of(
                 alloc,
                 graph.arrays.as_slice(),
@@ -86,25 +99,6 @@ fn inherit_at(
             Ok(())
         }
         None => Ok(()),
-    }
-}
-
-/// Lets a block take over where it may: with joins, or with one way in.
-fn take_if(
-    alloc: Global,
-    claims: &mut Vec<Claim>,
-    loops: &mut Loops,
-    ends: &[Claim],
-    graph: &Graph,
-    place: BlockId,
-    joins: bool,
-) -> Result<(), NoMemory>
-    ensures { IfOk result (λ _. length claims.new.items ≡ length claims.old.items) }
-{
-    if joins || loops.is_single(place) {
-        take_over(alloc, claims, loops, ends, graph, place)
-    } else {
-        Ok(())
     }
 }
 
@@ -192,6 +186,7 @@ fn take_over(
     claims: &mut Vec<Claim>,
     loops: &mut Loops,
     ends: &[Claim],
+    shared: &mut Shared,
     graph: &Graph,
     place: BlockId,
 ) -> Result<(), NoMemory>
@@ -201,10 +196,9 @@ fn take_over(
     match before.as_slice() {
         [] => Ok(()),
         [first, ..] => {
-            let one = first_led(ends, before.as_slice(), *first) as usize;
-            let facts = facts_in(ends, one);
-            let accesses = accesses_in(ends, one);
-            take_facts(claims, loops, ends, before.as_slice(), place, facts)?;
+            let one = first_led(ends, before.as_slice(), *first);
+            shared.find(loops, ends, before.as_slice(), one, place)?;
+            take_facts(alloc, claims, place, shared.facts())?;
             take_accesses(
                 graph.arrays.as_slice(),
                 claims,
@@ -212,7 +206,7 @@ fn take_over(
                 ends,
                 before.as_slice(),
                 place,
-                accesses,
+                accesses_in(ends, one as usize),
             )
         }
     }
@@ -228,22 +222,27 @@ fn first_led(ends: &[Claim], before: &[BlockId], otherwise: BlockId) -> BlockId 
     otherwise
 }
 
+/// Puts facts behind what is claimed at a block.
 fn take_facts(
+    alloc: Global,
     claims: &mut Vec<Claim>,
-    loops: &Loops,
-    ends: &[Claim],
-    before: &[BlockId],
-    place: BlockId,
+    block: BlockId,
     facts: &[Fact],
 ) -> Result<(), NoMemory>
     ensures { IfOk result (λ _. length claims.new.items ≡ length claims.old.items) }
 {
-    for fact in &facts[..facts.len().min(MOST)] {
-        if is_general(*fact) && keeps_fact(loops, *fact) && all_give(ends, before, *fact) {
-            take_fact(claims, place, *fact)?;
-        }
+    let place = block as usize;
+    if place < claims.len() && facts.len() > 0 {
+        claims[place].facts = with_facts(alloc, claims[place].facts.as_slice(), facts)?;
     }
     Ok(())
+}
+
+fn with_facts(alloc: Global, first: &[Fact], others: &[Fact]) -> Result<Listed<Fact>, NoMemory> {
+    let mut both = Vec::with_capacity(alloc, first.len().saturating_add(others.len()))?;
+    both.extend_from_slice(first)?;
+    both.extend_from_slice(others)?;
+    Ok(Listed::from_vec(both)?)
 }
 
 fn take_accesses(
@@ -263,21 +262,6 @@ fn take_accesses(
         }
     }
     Ok(())
-}
-
-/// Whether each turn of a loop leaves what a fact says.
-fn keeps_fact(loops: &Loops, fact: Fact) -> bool {
-    match fact {
-        Fact::Between { value, .. } => !loops.is_written(value),
-        Fact::Congruent { value, .. } => !loops.is_written(value),
-        Fact::Never => false,
-        Fact::Equals {
-            value,
-            left,
-            right,
-            ..
-        } => !loops.is_written(value) && loops.keeps(left) && loops.keeps(right),
-    }
 }
 
 /// The most arrays of a function for which stores to any of them are looked for.
@@ -344,16 +328,6 @@ fn keeps_access(arrays: &[Array], loops: &Loops, access: Access) -> bool {
     }
 }
 
-fn all_give(ends: &[Claim], before: &[BlockId], fact: Fact) -> bool {
-    for block in before {
-        let end = facts_in(ends, *block as usize);
-        if !give(end, &[fact]) && !is_never(end) {
-            return false;
-        }
-    }
-    true
-}
-
 fn all_tell(ends: &[Claim], before: &[BlockId], access: Access) -> bool {
     for block in before {
         let place = *block as usize;
@@ -364,16 +338,6 @@ fn all_tell(ends: &[Claim], before: &[BlockId], access: Access) -> bool {
     true
 }
 
-fn take_fact(claims: &mut Vec<Claim>, block: BlockId, fact: Fact) -> Result<(), NoMemory>
-    ensures { IfOk result (λ _. length claims.new.items ≡ length claims.old.items) }
-{
-    let place = block as usize;
-    if place < claims.len() {
-        claims[place].facts.push(fact)?;
-    }
-    Ok(())
-}
-
 fn take_access(claims: &mut Vec<Claim>, block: BlockId, access: Access) -> Result<(), NoMemory>
     ensures { IfOk result (λ _. length claims.new.items ≡ length claims.old.items) }
 {
@@ -382,15 +346,4 @@ fn take_access(claims: &mut Vec<Claim>, block: BlockId, access: Access) -> Resul
         claims[place].accesses.push(access)?;
     }
     Ok(())
-}
-
-/// Whether a fact says what a general value holds.
-fn is_general(fact: Fact) -> bool {
-    match fact {
-        Fact::Between { .. } | Fact::Congruent { .. } | Fact::Never => false,
-        Fact::Equals { code, .. } => match code {
-            Code::ToBranch(_) => false,
-            _ => true,
-        },
-    }
 }

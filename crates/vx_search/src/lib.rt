@@ -6,6 +6,7 @@ mod compared;
 mod inherited;
 mod parameters;
 mod search;
+mod shared;
 mod sweep;
 
 pub use crate::parameters::{Found, Kept, find_given};

@@ -9,8 +9,8 @@ ghost use Rattle.std.specs.Prelude.{◌≡◌, IfOk, length};
 
 use crate::inherited::{inherit, nothing_everywhere};
 use crate::sweep::{
-    Cell, Mark, Tables, anything, cell_at, either, is_none, lying, nowhere, put_cell, sweep,
-    unknown_cell, unseen,
+    Cell, Mark, Tables, anything, cell_at, either, is_none, is_steady, lying, nowhere, put_cell,
+    start_at, sweep, unknown_cell, unseen,
 };
 use std::alloc::Global;
 use vx_base::listed::Listed;
@@ -266,10 +266,12 @@ fn grown(old: Interval, new: Interval, widens: bool) -> Interval {
     Interval { low, high }
 }
 
-/// Gives back what is taken too much, so many times.
+/// Gives back what is taken too much, so many times, or until a sweep would find what the last one did.
 fn shrink(tables: &mut Tables, order: &[BlockId], blocks: &[Block], live: &Live, rounds: u32) {
     for round in 0..rounds {
-        give_back(tables, blocks.len(), live);
+        if !give_back(tables, blocks.len(), live) && is_steady(tables) {
+            return;
+        }
         sweep(
             tables,
             order,
@@ -280,29 +282,46 @@ fn shrink(tables: &mut Tables, order: &[BlockId], blocks: &[Block], live: &Live,
     }
 }
 
-/// Takes what was given at last, where something is taken.
-fn give_back(tables: &mut Tables, blocks: usize, live: &Live) {
+/// Takes what was given at last, where something is taken. Says whether that is not what was taken.
+fn give_back(tables: &mut Tables, blocks: usize, live: &Live) -> bool {
+    let mut other = false;
     for block in 1..blocks {
         let values = live.values_at(block_number(block)).len();
-        give_back_at(tables, block, values);
+        if give_back_at(tables, block, values) {
+            other = true;
+        }
     }
+    other
 }
 
 /// The same at a block: nothing where no block leads back to it.
-fn give_back_at(tables: &mut Tables, block: usize, values: usize) {
+fn give_back_at(tables: &mut Tables, block: usize, values: usize) -> bool {
     let mark = mark_at(tables, block);
+    let is_led_to = mark.back == tables.number;
+    let mut other = false;
     for index in 0..values {
         let place = mark.start.saturating_add(index);
-        let mut cell = cell_at(tables.cells.as_slice(), place);
-        if !is_none(cell.taken) {
-            cell.taken = if mark.back == tables.number {
-                cell.back
+        if place < tables.cells.len() && !is_none(tables.cells[place].taken) {
+            let given = if is_led_to {
+                tables.cells[place].back
             } else {
                 nowhere()
             };
-            put_cell(&mut tables.cells, place, cell);
+            if !is_same(given, tables.cells[place].taken) {
+                tables.cells[place].taken = given;
+                other = true;
+            }
         }
     }
+    other
+}
+
+/// Whether the same is known of two numbers.
+fn is_same(first: Sight, second: Sight) -> bool {
+    first.within.low == second.within.low
+        && first.within.high == second.within.high
+        && first.residue.places == second.residue.places
+        && first.residue.rest == second.residue.rest
 }
 
 /// What the tables say at the start of each block.
@@ -344,7 +363,7 @@ fn claims_at(
     }
     for (index, value) in live.values_at(block_number(block)).iter().enumerate() {
         let place = mark.start.saturating_add(index);
-        let start = cell_at(tables.cells.as_slice(), place).start;
+        let start = start_at(tables.cells.as_slice(), place);
         if is_general(banks, *value) {
             append_stands(&mut claims, *value, start.within, start.residue)?;
         }

@@ -214,6 +214,19 @@ fn is_led_to(tables: &Tables, place: usize, last: u32) -> bool {
     }
 }
 
+/// Whether the blocks that were gone over in the last sweep are those to which blocks before them led, so that they are gone over again
+/// in the next one.
+pub(crate) fn is_steady(tables: &Tables) -> bool {
+    for (place, mark) in tables.marks.iter().enumerate() {
+        let is_seen = mark.seen == tables.number;
+        let is_led_to = place == 0 || mark.forward == tables.number;
+        if is_seen && !is_led_to || mark.back == tables.number && !is_seen {
+            return false;
+        }
+    }
+    true
+}
+
 fn visit(tables: &mut Tables, place: usize, block: &Block, live: &Live, number: u32) {
     tables.stamp = tables.stamp.wrapping_add(1);
     if place < tables.marks.len() {
@@ -232,16 +245,30 @@ fn begin(tables: &mut Tables, block: usize, live: &Live, number: u32) {
     let mark = tables.marks[block];
     for (index, value) in live.values_at(block_number(block)).iter().enumerate() {
         let place = mark.start.saturating_add(index);
-        let mut cell = cell_at(tables.cells.as_slice(), place);
         if block != 0 {
-            cell.start = if mark.forward == number {
-                together(either(cell.forward, cell.taken))
-            } else {
-                anything()
-            };
-            put_cell(&mut tables.cells, place, cell);
+            put_start(&mut tables.cells, place, mark.forward == number);
         }
-        put_sight(tables, *value, cell.start);
+        let start = start_at(tables.cells.as_slice(), place);
+        put_sight(tables, *value, start);
+    }
+}
+
+/// Puts what is known at the start of a block by all that lead to it, where a block before it does.
+fn put_start(cells: &mut Vec<Cell>, place: usize, is_led_to: bool) {
+    if place < cells.len() {
+        cells[place].start = if is_led_to {
+            together(either(cells[place].forward, cells[place].taken))
+        } else {
+            anything()
+        };
+    }
+}
+
+/// What is known at the start of a block.
+pub(crate) fn start_at(cells: &[Cell], place: usize) -> Sight {
+    match cells.get(place) {
+        Some(cell) => cell.start,
+        None => anything(),
     }
 }
 
@@ -464,13 +491,13 @@ fn lead_back(tables: &mut Tables, start: usize, values: &[Value], side: Side, jo
     for (index, value) in values.iter().enumerate() {
         let place = start.saturating_add(index);
         let sight = sight_on(tables, side, *value);
-        let mut cell = cell_at(tables.cells.as_slice(), place);
-        cell.back = if joins {
-            either(cell.back, sight)
-        } else {
-            sight
-        };
-        put_cell(&mut tables.cells, place, cell);
+        if place < tables.cells.len() {
+            tables.cells[place].back = if joins {
+                either(tables.cells[place].back, sight)
+            } else {
+                sight
+            };
+        }
     }
 }
 
@@ -478,13 +505,13 @@ fn lead_forward(tables: &mut Tables, start: usize, values: &[Value], side: Side,
     for (index, value) in values.iter().enumerate() {
         let place = start.saturating_add(index);
         let sight = sight_on(tables, side, *value);
-        let mut cell = cell_at(tables.cells.as_slice(), place);
-        cell.forward = if joins {
-            either(cell.forward, sight)
-        } else {
-            sight
-        };
-        put_cell(&mut tables.cells, place, cell);
+        if place < tables.cells.len() {
+            tables.cells[place].forward = if joins {
+                either(tables.cells[place].forward, sight)
+            } else {
+                sight
+            };
+        }
     }
 }
 
