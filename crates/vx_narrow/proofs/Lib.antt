@@ -21,3 +21,4 @@ pub mod Spots
 pub mod RunFacts
 mod Turns
 mod Entries
+mod Free

@@ -16,6 +16,7 @@ use std::alloc::Global;
 use vx_base::listed::Listed;
 use vx_base::outcome::NoMemory;
 use vx_claims::access::{Access, accessed, copied_accesses};
+use vx_claims::behind::with_room;
 use vx_claims::claim::{Claim, accesses_in, facts_in};
 use vx_claims::fact::Fact;
 use vx_claims::forms::form;
@@ -45,7 +46,7 @@ pub fn pass_ops(
     ensures accesses { IfOk result (λ passed. passed.accesses ≡ accessed_from arrays.now claims.now accesses.now ops.now) }
     ensures ops { IfOk result (λ passed. passed.ops ≡ improved_from arrays.now ops.now claims.now accesses.now ops.now) }
 {
-    let mut facts = claims.to_vec(alloc)?;
+    let mut facts = with_room(alloc, claims, ops.len())?;
     let mut known = copied_accesses(alloc, accesses)?;
     let mut made = Listed::new(alloc);
     pass_each(alloc, arrays, ops, &mut facts, &mut known, &mut made, ops)?;

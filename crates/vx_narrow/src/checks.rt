@@ -1,6 +1,6 @@
 // Whether a block passes by what is known behind its operations: its exit gives what is claimed at the blocks to which it leads.
 
-ghost use Rattle.std.specs.Prelude.{◌≡◌, ◌&&◌, IfOk};
+ghost use Rattle.std.specs.Prelude.{◌≡◌, ◌&&◌, true, [], IfOk};
 ghost use Rattle.std.specs.List.{list_all};
 ghost use Rattle.vx_claims.specs.Facts.{decided, on_side, without_written};
 ghost use Rattle.vx_claims.specs.Claims.{listed_claims};
@@ -115,7 +115,16 @@ fn are_given_on_side(
     Ok(are_given(there.as_slice(), known, table, block))
 }
 
+/// Whether nothing is claimed at a block.
+fn is_free(table: &[Claim], block: BlockId) -> bool
+    ensures facts { result ≡ true → (listed_claims table.now block).facts ≡ [] }
+    ensures accesses { result ≡ true → (listed_claims table.now block).accesses ≡ [] }
+{
+    facts_in(table, block as usize).is_empty() && accesses_in(table, block as usize).is_empty()
+}
+
 /// The same, or no run goes there.
+#[tactic(auto, using(crate::proofs::Free::given_where_free))]
 fn are_given_on(
     alloc: Global,
     facts: &[Fact],
@@ -127,6 +136,9 @@ fn are_given_on(
 ) -> Result<bool, NoMemory>
     ensures { IfOk result (λ given. given ≡ are_given_on answer facts.now known.now test (listed_claims table.now block)) }
 {
+    if is_free(table, block) {
+        return Ok(true);
+    }
     Ok(
         is_against(answer, decided(facts, test))
             || are_given_on_side(alloc, facts, known, answer, test, table, block)?,
