@@ -95,19 +95,40 @@ fn moves_of(
 ) -> Result<Listed<Move>, NoMemory> {
     let mut sketch = Sketch::of_graph(alloc, graph.blocks.as_slice())?;
     let mut walk = walk_of(alloc, graph, counts, function)?;
-    if units.first_slots > 1 && has_loop(&walk, &sketch, graph.blocks.len()) {
+    if units.first_slots > 1 && has_turn(alloc, &sketch, &mut walk, graph.blocks.len())? {
         raise_in(alloc, graph, units, &mut sketch, &mut walk, aim)?;
     }
     sketch.moves(alloc)
 }
 
-fn has_loop(walk: &Walk, sketch: &Sketch, count: usize) -> bool {
-    for block in 0..count {
-        if walk.is_header(sketch, as_number(block)) {
-            return true;
+/// Whether there is a loop that may be turned.
+fn has_turn(
+    alloc: Global,
+    sketch: &Sketch,
+    walk: &mut Walk,
+    count: usize,
+) -> Result<bool, NoMemory> {
+    for header in 0..count {
+        if may_turn(alloc, sketch, walk, as_number(header))? {
+            return Ok(true);
         }
     }
-    false
+    Ok(false)
+}
+
+fn may_turn(
+    alloc: Global,
+    sketch: &Sketch,
+    walk: &mut Walk,
+    header: BlockId,
+) -> Result<bool, NoMemory> {
+    if !walk.is_header(sketch, header) {
+        return Ok(false);
+    }
+    match turn_of(alloc, sketch, walk, header)? {
+        Some(_turn) => Ok(true),
+        None => Ok(false),
+    }
 }
 
 fn raise_in(
