@@ -10,3 +10,4 @@ pub mod OuterEdges
 pub mod Exchanges
 pub mod Pushed
 pub mod Looking
+pub mod StandingRegions

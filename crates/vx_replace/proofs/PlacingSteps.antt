@@ -17,7 +17,14 @@ use Rattle.vx_mixed.specs.declared.replacement.Replacement.{Replacement}
 use Rattle.vx_mixed.specs.Next.{InWord, new_end, freed, placed, in_word, last_of, new_region}
 use Rattle.vx_replace.specs.Placing.{placed_item, drains_behind, bound_behind, placed_by}
 use Rattle.vx_mixed.proofs.RouteSteps.{left_at, left_from, none_left}
-use Rattle.vx_replace.proofs.TraceSteps.{set_elsewhere, take_more}
+use Rattle.vx_replace.proofs.TraceSteps.{take_more}
+
+set_elsewhere : {A : Type 0} (rows : List (List A)) (p c : ℕ) (x : List A) → (p ≡ c → ⊥) → row_at (slice_set rows p x) c ≡ row_at rows c
+set_elsewhere [] p c x n = refl
+set_elsewhere (r ∷ rows) zero zero x n = absurd (n refl)
+set_elsewhere (r ∷ rows) zero (suc c) x n = refl
+set_elsewhere (r ∷ rows) (suc p) zero x n = refl
+set_elsewhere (r ∷ rows) (suc p) (suc c) x n = set_elsewhere rows p c x (λ e. n (ap suc e))
 
 -- the bound stands for the words of the splits above
 

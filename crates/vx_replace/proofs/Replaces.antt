@@ -3,7 +3,6 @@ use Rattle.std.proofs.Common.{◌≡◌, Option, List, sym, ap, ◌∙◌, subst
 use Rattle.vx_flow.specs.declared.trace.Homes.{Homes}
 use Rattle.vx_mixed.specs.declared.region.Node.{Node}
 use Rattle.vx_mixed.specs.declared.region.Origin.{Origin}
-use Rattle.vx_mixed.specs.declared.region.Region.{Region}
 use Rattle.vx_mixed.specs.declared.mixed.MixedGraph.{MixedGraph}
 use Rattle.vx_mixed.specs.CanReplace.{TraceFits, IsFormed, NamesFit, ListsFit, WordsFit, MadeFits, MadeStands, HomesFit, AwayFits, CanReplace}
 use Rattle.vx_mixed.specs.declared.replacement.Replacement.{Replacement}
@@ -15,10 +14,11 @@ pub can_at : (m n : MixedGraph) (r : Replacement) → m ≡ n → TraceFits n r 
 can_at m n r same trace formed names lists words made stand homes away =
     subst (λ z. CanReplace z r) (sym same) (record { trace = trace; formed = formed; names = names; lists = lists; words = words; made = made; stand = stand; homes = homes; away = away })
 
-pub parts_make : (m : MixedGraph) (r : Replacement) (nodes : List Node) (regions : List Region) (origins : List (Option Origin)) (homes : Homes) → nodes ≡ (next_mixed m r).nodes → regions ≡ (next_mixed m r).regions → origins ≡ (next_mixed m r).origins → homes ≡ r.homes → record m { nodes = nodes; regions = regions; origins = origins; homes = homes } ≡ next_mixed m r
-parts_make m r nodes regions origins homes n g o h =
-    ap (λ z. record m { nodes = z; regions = regions; origins = origins; homes = homes }) n
-    ∙ ap (λ z. record m { nodes = (next_mixed m r).nodes; regions = z; origins = origins; homes = homes }) g
+-- g is the graph with the regions after the replacement
+pub parts_make : (m g : MixedGraph) (r : Replacement) (nodes : List Node) (origins : List (Option Origin)) (homes : Homes) → g ≡ record m { regions = (next_mixed m r).regions } → nodes ≡ (next_mixed m r).nodes → origins ≡ (next_mixed m r).origins → homes ≡ r.homes → record g { nodes = nodes; origins = origins; homes = homes } ≡ next_mixed m r
+parts_make m g r nodes origins homes e n o h =
+    ap (λ (z : MixedGraph). record z { nodes = nodes; origins = origins; homes = homes }) e
+    ∙ ap (λ z. record m { nodes = z; regions = (next_mixed m r).regions; origins = origins; homes = homes }) n
     ∙ ap (λ z. record m { nodes = (next_mixed m r).nodes; regions = (next_mixed m r).regions; origins = z; homes = homes }) o
     ∙ ap (λ z. record m { nodes = (next_mixed m r).nodes; regions = (next_mixed m r).regions; origins = (next_mixed m r).origins; homes = z }) h
 

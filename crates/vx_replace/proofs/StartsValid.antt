@@ -20,7 +20,7 @@ use Rattle.vx_flow.specs.declared.graph.Op.TheVariants.{Compute, Select, Place, 
 use Rattle.vx_flow.specs.declared.graph.Operand.{Operand}
 use Rattle.vx_flow.specs.Effects.{IsIn, reads, writes}
 use Rattle.vx_flow.specs.Live.{reads_of_exit}
-use Rattle.vx_flow.specs.Sound.{is_bank, is_general, is_branch, is_operand, is_right, is_written, is_sound_operation, is_sound_exit, is_sound_in, is_sound_block, is_sound, is_kept, is_access_placed, is_general_or_none, targets_of, results_of_exit}
+use Rattle.vx_flow.specs.Sound.{is_bank, is_general, is_branch, is_operand, is_right, is_written, is_sound_operation, is_sound_exit, is_sound_in, is_sound_block, is_sound, is_general_or_none, targets_of, results_of_exit}
 use Rattle.vx_mixed.specs.declared.region.Node.TheVariants.{Unused, Inner}
 use Rattle.vx_mixed.specs.declared.region.Origin.{Origin}
 use Rattle.vx_mixed.specs.declared.mixed.MixedGraph.{MixedGraph}

@@ -1,22 +1,63 @@
 -- One more block of the lists of a trace.
-use Rattle.std.proofs.Common.{◌≡◌, ℕ, zero, suc, ◌+◌, ◌-◌, ◌<◌, ◌≤◌, Bool, true, false, ◌&&◌, Some, List, [], ◌∷◌, ◌++◌, cond, length, take, drop, slice_index_or, slice_set, get_or, refl, sym, ap, ◌∙◌, subst, ⊎_elim, arith, append-nil, eqb-true}
+use Rattle.std.proofs.Common.{◌≡◌, ℕ, zero, suc, ◌+◌, ◌-◌, ◌<◌, ◌≤◌, Bool, true, false, ◌&&◌, Some, List, [], ◌∷◌, ◌++◌, cond, length, take, drop, slice_index_or, slice_set, get_or, refl, sym, ap, ◌∙◌, subst, inl, inr, arith, append-nil, eqb-true}
 use Rattle.std.specs.Prelude.{◌==◌, not, if◌then◌else◌}
 use Rattle.std.specs.List.{filter}
-use Rattle.std.proofs.lemmas.Bool.{cases_eq, eq-eqb, ne_eqb}
+use Rattle.std.proofs.lemmas.Bool.{ne_eqb}
 use Rattle.std.proofs.lemmas.List.Elements.{filter-append}
 use Rattle.vx_flow.specs.declared.graph.Edge.{Edge}
 use Rattle.vx_flow.specs.declared.trace.Join.{Join}
-use Rattle.vx_flow.specs.Rows.{row_at}
+use Rattle.vx_flow.specs.Effects.{IsIn}
 use Rattle.vx_flow.specs.Walk.{edge}
-use Rattle.vx_flow.proofs.Members.{set_there, row_is}
 use Rattle.vx_mixed.specs.declared.mixed.MixedGraph.{MixedGraph}
 use Rattle.vx_mixed.specs.FromGraph.{same_edge}
-use Rattle.vx_replace.specs.TraceLists.{Entering}
+use Rattle.vx_replace.specs.TraceLists.{Entering, marked}
 use Rattle.vx_mixed.specs.TraceOf.{block_ops, joined, joins_behind, trace_joins}
 use Rattle.vx_mixed.specs.Next.{rejoin_at}
 use Rattle.vx_mixed.proofs.RouteSteps.{one_more, left_at, left_from}
 
--- the edges that lead to each block
+-- the edges that lead to some blocks
+
+abbrev mark_at : List Bool → ℕ → Bool
+mark_at marks c = slice_index_or marks c true
+
+set_keeps : (marks : List Bool) (b c : ℕ) → mark_at marks c ≡ true → mark_at (slice_set marks b true) c ≡ true
+set_keeps [] b c h = h
+set_keeps (m ∷ marks) zero zero h = refl
+set_keeps (m ∷ marks) zero (suc c) h = h
+set_keeps (m ∷ marks) (suc b) zero h = h
+set_keeps (m ∷ marks) (suc b) (suc c) h = set_keeps marks b c h
+
+set_marks : (marks : List Bool) (b : ℕ) → mark_at (slice_set marks b true) b ≡ true
+set_marks [] b = refl
+set_marks (m ∷ marks) zero = refl
+set_marks (m ∷ marks) (suc b) = set_marks marks b
+
+marked_keeps : (bs : List ℕ) (marks : List Bool) (c : ℕ) → mark_at marks c ≡ true → mark_at (marked bs marks) c ≡ true
+marked_keeps [] marks c h = h
+marked_keeps (b ∷ bs) marks c h = marked_keeps bs (slice_set marks b true) c (set_keeps marks b c h)
+
+pub marks_all : (bs : List ℕ) (marks : List Bool) (c : ℕ) → IsIn c bs → slice_index_or (marked bs marks) c true ≡ true
+marks_all [] marks c h = absurd h
+marks_all (b ∷ bs) marks c (inl e) = marked_keeps bs (slice_set marks b true) c (subst (λ z. mark_at (slice_set marks b true) z ≡ true) (sym e) (set_marks marks b))
+marks_all (b ∷ bs) marks c (inr h) = marks_all bs (slice_set marks b true) c h
+
+-- what passes the second test passes the first
+filter_within : (p q : Edge → Bool) → ((e : Edge) → q e ≡ true → p e ≡ true) → (xs : List Edge) → filter q (filter p xs) ≡ filter q xs
+filter_within p q h [] = refl
+filter_within p q h (x ∷ xs) = by (p x) (h x) (filter_within p q h xs)
+  where
+    none : (b : Bool) → (b ≡ true → false ≡ true) → filter q xs ≡ cond b (x ∷ filter q xs) (filter q xs)
+    none false n = refl
+    none true n = let e : false ≡ true = n refl in absurd (cc)
+
+    by : (a : Bool) → (q x ≡ true → a ≡ true) → filter q (filter p xs) ≡ filter q xs → filter q (cond a (x ∷ filter p xs) (filter p xs)) ≡ cond (q x) (x ∷ filter q xs) (filter q xs)
+    by true n e = ap (λ l. cond (q x) (x ∷ l) l) e
+    by false n e = e ∙ none (q x) n
+
+pub entering_by : (marks : List Bool) (blocks : List ℕ) (edges into : List Edge) → ((c : ℕ) → IsIn c blocks → slice_index_or marks c true ≡ true) → into ≡ filter (λ (e : Edge). slice_index_or marks e.to true) edges → Entering edges blocks into
+entering_by marks blocks edges into all is c h =
+    ap (filter (λ (e : Edge). e.to == c)) is
+    ∙ filter_within (λ (e : Edge). mark_at marks e.to) (λ (e : Edge). e.to == c) (λ e t. subst (λ z. mark_at marks z ≡ true) (sym (eqb-true e.to c t)) (all c h)) edges
 
 filter_two : {A : Type 0} (p q : A → Bool) (xs : List A) → filter q (filter p xs) ≡ filter (λ x. p x && q x) xs
 filter_two p q [] = refl
@@ -38,29 +79,6 @@ kept_or_not p xs x = filter-append p xs (x ∷ []) ∙ by (p x)
     by true = refl
     by false = append-nil (filter p xs)
 
-pub set_elsewhere : {A : Type 0} (rows : List (List A)) (p c : ℕ) (x : List A) → (p ≡ c → ⊥) → row_at (slice_set rows p x) c ≡ row_at rows c
-set_elsewhere [] p c x n = refl
-set_elsewhere (r ∷ rows) zero zero x n = absurd (n refl)
-set_elsewhere (r ∷ rows) zero (suc c) x n = refl
-set_elsewhere (r ∷ rows) (suc p) zero x n = refl
-set_elsewhere (r ∷ rows) (suc p) (suc c) x n = set_elsewhere rows p c x (λ e. n (ap suc e))
-
-pub added_row : (old reached : List (List Edge)) (row new : List Edge) (x : Edge) → x.to < length reached → ((q : ℕ) → row_at reached q ≡ row_at old q) → row ≡ slice_index_or reached x.to row → new ≡ row ++ x ∷ [] →
-    (c : ℕ) → row_at (slice_set reached x.to new) c ≡ (if x.to == c then row_at old c ++ x ∷ [] else row_at old c)
-added_row old reached row new x low same is push c =
-    ⊎_elim
-    (λ e. subst (λ c. row_at (slice_set reached x.to new) c ≡ (if x.to == c then row_at old c ++ x ∷ [] else row_at old c)) e
-    (set_there reached x.to new low ∙ push ∙ ap (λ l. l ++ x ∷ []) (sym (row_is reached x.to row low is) ∙ same x.to) ∙ ap (λ b. if b then row_at old x.to ++ x ∷ [] else row_at old x.to) (sym (eq-eqb x.to x.to refl))))
-    (λ n. set_elsewhere reached x.to c new n ∙ same c ∙ ap (λ b. if b then row_at old c ++ x ∷ [] else row_at old c) (sym (ne_eqb x.to c n)))
-    (cases_eq x.to c)
-
-pub entering_more : (edges : List Edge) (i : ℕ) (d : Edge) (rows next : List (List Edge)) → i < length edges → Entering (take i edges) rows →
-    ((c : ℕ) → row_at next c ≡ (if (get_or edges i d).to == c then row_at rows c ++ get_or edges i d ∷ [] else row_at rows c)) → Entering (take (i + 1) edges) next
-entering_more edges i d rows next h e add c =
-    let x = get_or edges i d in
-    let p = λ (y : Edge). y.to == c in
-    add c ∙ ap (λ l. if x.to == c then l ++ x ∷ [] else l) (e c) ∙ sym (kept_or_not p (take i edges) x) ∙ ap (filter p) (sym (take_more edges i d h))
-
 pub others_more : (p : Edge → Bool) (edges : List Edge) (i : ℕ) (d : Edge) (now next : List Edge) → i < length edges → now ≡ filter p (take i edges) → next ≡ (if p (get_or edges i d) then now ++ get_or edges i d ∷ [] else now) → next ≡ filter p (take (i + 1) edges)
 others_more p edges i d now next h e n =
     let x = get_or edges i d in
@@ -68,9 +86,12 @@ others_more p edges i d now next h e n =
 
 -- joins
 
-pub others_are : (edges found : List Edge) (rows : List (List Edge)) (row : List Edge) (before b : ℕ) → Entering edges rows → row ≡ row_at rows b → found ≡ filter (λ e. not (same_edge e (edge before b))) row → found ≡ filter (λ (e : Edge). (e.to == b) && not (same_edge e (edge before b))) edges
-others_are edges found rows row before b e r f =
-    f ∙ ap (filter (λ (e : Edge). not (same_edge e (edge before b)))) (r ∙ e b) ∙ filter_two (λ (e : Edge). e.to == b) (λ e. not (same_edge e (edge before b))) edges
+pub others_are : (edges entering : List Edge) (before b : ℕ) → filter (λ (e : Edge). e.to == b) entering ≡ filter (λ (e : Edge). e.to == b) edges →
+    filter (λ (e : Edge). (e.to == b) && not (same_edge e (edge before b))) entering ≡ filter (λ (e : Edge). (e.to == b) && not (same_edge e (edge before b))) edges
+others_are edges entering before b same =
+    sym (filter_two (λ (e : Edge). e.to == b) (λ e. not (same_edge e (edge before b))) entering)
+    ∙ ap (filter (λ (e : Edge). not (same_edge e (edge before b)))) same
+    ∙ filter_two (λ (e : Edge). e.to == b) (λ e. not (same_edge e (edge before b))) edges
 
 pub no_join : (place b : ℕ) (es : List Edge) → (length es == 0) ≡ true → joined place b es ≡ []
 no_join place b [] h = refl

@@ -1,3 +1,4 @@
 pub mod TraceLists
 pub mod Placing
 pub mod Exchanged
+pub mod MadeEdges

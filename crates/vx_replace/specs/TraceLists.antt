@@ -1,10 +1,9 @@
 -- How the lists of a trace are put together: block by block, with the edges that lead to each block.
-use Rattle.std.specs.Prelude.{◌≡◌, ◌↔◌, ◌==◌, ℕ, Bool, true, false, if◌then◌else◌, Option, None, List, [], ◌∷◌, ◌++◌, length, replicate, slice_get}
+use Rattle.std.specs.Prelude.{◌≡◌, ◌↔◌, ◌==◌, ℕ, Bool, true, false, if◌then◌else◌, Option, None, List, [], ◌∷◌, ◌++◌, length, replicate, slice_get, slice_set}
 use Rattle.std.specs.List.{filter}
 use Rattle.vx_flow.specs.declared.graph.Edge.{Edge}
 use Rattle.vx_flow.specs.declared.trace.TraceOp.TheVariants.{Split}
 use Rattle.vx_flow.specs.Effects.{IsIn}
-use Rattle.vx_flow.specs.Rows.{row_at}
 use Rattle.vx_mixed.specs.declared.mixed.MixedGraph.{MixedGraph}
 use Rattle.vx_mixed.specs.Live.{Live}
 use Rattle.vx_mixed.specs.TraceOf.{block_at, clusters_of, split_behind, trace_ops}
@@ -13,9 +12,14 @@ use Rattle.vx_mixed.specs.TraceOf.{block_at, clusters_of, split_behind, trace_op
 abbrev pub block_fixed : MixedGraph → (ℕ → List ℕ) → ℕ → List ℕ → List (Option ℕ)
 block_fixed m live b blocks = clusters_of (length (block_at m b).ops) (slice_get m.origins b) ++ replicate (length (split_behind live b (block_at m b).exit blocks)) None
 
--- each row has the edges that lead to its block, in their order
-abbrev pub Entering : List Edge → List (List Edge) → Type 0
-Entering edges rows = (c : ℕ) → row_at rows c ≡ filter (λ (e : Edge). e.to == c) edges
+-- the second list has the edges that lead to these blocks, in their order
+abbrev pub Entering : List Edge → (blocks : List ℕ) → List Edge → Type 0
+Entering edges blocks entering = (c : ℕ) → IsIn c blocks → filter (λ (e : Edge). e.to == c) entering ≡ filter (λ (e : Edge). e.to == c) edges
+
+-- a mark put at each of these blocks
+abbrev pub marked : List ℕ → List Bool → List Bool
+marked [] marks = marks
+marked (b ∷ blocks) marks = marked blocks (slice_set marks b true)
 
 -- whether one of the blocks has a split in their trace
 abbrev pub has_split : MixedGraph → List ℕ → Bool

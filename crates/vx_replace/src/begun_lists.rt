@@ -146,11 +146,7 @@ fn start_homes(
 pub(crate) fn no_numbers(alloc: Global, count: usize) -> Result<Vec<Option<u32>>, NoMemory>
     ensures { IfOk result (λ numbers. numbers.items ≡ replicate count None) }
 {
-    let mut numbers = Vec::new(alloc);
-    for _number in 0..count {
-        numbers.push(None)?;
-    }
-    Ok(numbers)
+    Ok(vec![in alloc; None; count]?)
 }
 
 fn bind_blocks(homes: &mut Vec<Option<u32>>, blocks: &[Block])

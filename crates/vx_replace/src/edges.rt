@@ -1,7 +1,7 @@
 // The edges of a graph after a replacement: those that were not inside the trace, each to its new end, and one from each block
 // that is made, sorted by their numbers. The clause of `edges_after` carries the promise.
 
-ghost use Rattle.std.specs.Prelude.{◌≡◌, ◌+◌, ◌<◌, ◌^◌, ◌++◌, ◌∷◌, ℕ, None, not, IfOk, length, replicate};
+ghost use Rattle.std.specs.Prelude.{◌≡◌, ◌+◌, ◌<◌, ◌≤◌, ◌^◌, ◌++◌, ◌∷◌, ℕ, None, not, IfOk, drop, length, replicate, take};
 ghost use Rattle.std.specs.List.{filter, list_any};
 ghost use Rattle.std.specs.List.Sorted.{IsNonDecreasingBy, IsPermutation};
 ghost use Rattle.vx_flow.specs.Effects.{IsIn};
@@ -105,7 +105,7 @@ fn put_before(before: &mut Vec<Option<u32>>, first: BlockId, others: &[BlockId])
     }
 }
 
-/// The edges that do not go from the block that stands before.
+/// The edges that do not go from the block that stands before, copied run by run.
 fn edges_beside(
     alloc: Global,
     edges: &[Edge],
@@ -113,13 +113,43 @@ fn edges_beside(
 ) -> Result<Listed<Edge>, NoMemory>
     ensures { IfOk result (λ beside. beside ≡ filter (λ e. not (follows before.now e)) edges.now) }
 {
-    let mut beside = Listed::new(alloc);
-    for edge in edges {
-        if !follows(before, *edge) {
-            beside.push(*edge)?;
+    let mut beside = Vec::with_capacity(alloc, edges.len())?;
+    let mut rest = edges;
+    'run: loop {
+        let run = run_of(rest, before);
+        beside.extend_from_slice(front_of(rest, run))?;
+        if run >= rest.len() {
+            return Ok(Listed::from_vec(beside)?);
+        }
+        rest = behind(rest, run + 1);
+    }
+}
+
+/// How many edges stand above the first that goes from the block that stands before.
+fn run_of(edges: &[Edge], before: &[Option<u32>]) -> usize
+    ensures within { result ≤ length edges.now }
+    ensures parts { filter (λ e. not (follows before.now e)) edges.now ≡ take result edges.now ++ filter (λ e. not (follows before.now e)) (drop (result + 1) edges.now) }
+{
+    for (index, edge) in edges.iter().enumerate() {
+        if follows(before, *edge) {
+            return index;
         }
     }
-    Ok(beside)
+    edges.len()
+}
+
+fn front_of(edges: &[Edge], count: usize) -> &[Edge]
+    requires { count ≤ length edges.now }
+    ensures { result.now ≡ take count edges.now }
+{
+    &edges[..count]
+}
+
+fn behind(edges: &[Edge], count: usize) -> &[Edge]
+    requires { count ≤ length edges.now }
+    ensures { result.now ≡ drop count edges.now }
+{
+    &edges[count..]
 }
 
 /// Whether the edge goes from the block that stands before the one to which it goes.

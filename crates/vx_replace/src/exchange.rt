@@ -73,7 +73,7 @@ fn put_region(
 }
 
 /// Puts the region of a trace behind the others.
-fn push_region(
+pub(crate) fn push_region(
     alloc: Global,
     graph: &mut MixedGraph,
     replacement: &Replacement,

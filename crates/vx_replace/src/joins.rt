@@ -1,13 +1,13 @@
-// The joins of a trace: its blocks to which other edges lead than the one from the block before. The edges are first sorted
-// by the blocks to which they lead, so that each is looked at once.
+// The joins of a trace: its blocks to which other edges lead than the one from the block before. The edges to its blocks are
+// found first, in one pass over all edges.
 
-ghost use Rattle.std.specs.Prelude.{◌≡◌, ◌==◌, ◌+◌, ◌<◌, ◌++◌, ◌∷◌, ◌&&◌, [], not, ℕ, List, IfOk, if◌then◌else◌, length};
+ghost use Rattle.std.specs.Prelude.{◌≡◌, ◌==◌, ◌+◌, ◌++◌, ◌&&◌, [], not, true, ℕ, List, IfOk, length, slice_index_or, slice_set};
 ghost use Rattle.std.specs.List.{filter};
 ghost use Rattle.vx_flow.specs.declared.graph.Edge.{Edge};
-ghost use Rattle.vx_flow.specs.Rows.{row_at};
+ghost use Rattle.vx_flow.specs.Effects.{IsIn};
 ghost use Rattle.vx_flow.specs.Walk.{edge};
 ghost use Rattle.vx_mixed.specs.FromGraph.{same_edge};
-ghost use Rattle.vx_replace.specs.TraceLists.{Entering};
+ghost use Rattle.vx_replace.specs.TraceLists.{Entering, marked};
 ghost use Rattle.vx_mixed.specs.TraceOf.{block_ops, joined, joins_behind, trace_joins};
 
 use crate::trace::{ops_in, rest_of, splits_in};
@@ -30,23 +30,23 @@ pub(crate) fn joins_of(
     match blocks {
         [] | [_] => Ok(Listed::new(alloc)),
         [first, others @ ..] => {
-            let entering = entering_of(alloc, edges)?;
+            let entering = entering_of(alloc, graph.nodes.len(), edges, others)?;
             let place = place_behind(graph, 0, *first, others)?;
             joins_behind(alloc, graph, entering.as_slice(), *first, place, others)
         }
     }
 }
 
-/// The joins of the blocks behind block `first`, above which so many operations stand.
+/// The joins of the blocks behind block `first`, above which so many operations stand, where these edges enter them.
 fn joins_behind(
     alloc: Global,
     graph: &MixedGraph,
-    entering: &[Listed<Edge>],
+    entering: &[Edge],
     first: BlockId,
     above: u32,
     blocks: &[BlockId],
 ) -> Result<Listed<Join>, NoMemory>
-    ensures { IfOk result (λ joins. (live : ℕ → List ℕ) (edges : List Edge) → Entering edges entering.now → joins ≡ joins_behind graph.now live edges first above blocks.now) }
+    ensures { IfOk result (λ joins. (live : ℕ → List ℕ) (edges : List Edge) → Entering edges blocks.now entering.now → joins ≡ joins_behind graph.now live edges first above blocks.now) }
 {
     let mut joins = Listed::new(alloc);
     let mut before = first;
@@ -80,18 +80,18 @@ fn place_behind(
 fn push_join(
     alloc: Global,
     joins: &mut Listed<Join>,
-    entering: &[Listed<Edge>],
+    entering: &[Edge],
     place: u32,
     before: BlockId,
     block: BlockId,
 ) -> Result<(), NoMemory>
-    ensures { IfOk result (λ _. (edges : List Edge) → Entering edges entering.now → joins.new ≡ joins.old ++ joined place block (filter (λ e. (e.to == block) && not (same_edge e (edge before block))) edges)) }
+    ensures { IfOk result (λ _. joins.new ≡ joins.old ++ joined place block (filter (λ e. (e.to == block) && not (same_edge e (edge before block))) entering.now)) }
 {
     let inner = Edge {
         from: before,
         to: block,
     };
-    let edges = other_edges(alloc, row_of(entering, block), inner)?;
+    let edges = other_edges(alloc, entering, inner)?;
     if edges.is_empty() {
         return Ok(());
     }
@@ -103,57 +103,82 @@ fn push_join(
     Ok(())
 }
 
-/// The edges but one.
+/// The edges that go where an edge goes, but that one.
 fn other_edges(alloc: Global, edges: &[Edge], apart: Edge) -> Result<Listed<Edge>, NoMemory>
-    ensures { IfOk result (λ others. others ≡ filter (λ e. not (same_edge e apart)) edges.now) }
+    ensures { IfOk result (λ others. others ≡ filter (λ e. (e.to == apart.to) && not (same_edge e apart)) edges.now) }
 {
     let mut others = Listed::new(alloc);
     for edge in edges {
-        if *edge != apart {
+        if joins_with(*edge, apart) {
             others.push(*edge)?;
         }
     }
     Ok(others)
 }
 
-fn row_of(rows: &[Listed<Edge>], block: BlockId) -> &[Edge]
-    ensures { result.now ≡ row_at rows.now block }
+/// Whether an edge is another one to the same block.
+fn joins_with(edge: Edge, apart: Edge) -> bool
+    ensures { result ≡ ((edge.to == apart.to) && not (same_edge edge apart)) }
 {
-    match rows.get(block as usize) {
-        Some(row) => row.as_slice(),
-        None => &[],
+    edge.to == apart.to && edge != apart
+}
+
+/// The edges that lead to these blocks, and at most those beside them that lead to no number below `nodes`.
+fn entering_of(
+    alloc: Global,
+    nodes: usize,
+    edges: &[Edge],
+    blocks: &[BlockId],
+) -> Result<Listed<Edge>, NoMemory>
+    ensures { IfOk result (λ entering. Entering edges.now blocks.now entering) }
+{
+    let marks = marks_of(alloc, nodes, blocks)?;
+    edges_into(alloc, edges, marks.as_slice())
+}
+
+/// A mark at each of these blocks.
+fn marks_of(alloc: Global, nodes: usize, blocks: &[BlockId]) -> Result<Vec<bool>, NoMemory>
+    ensures { IfOk result (λ marks. (c : ℕ) → IsIn c blocks.now → slice_index_or marks.items c true ≡ true) }
+{
+    let mut marks = vec![in alloc; false; nodes]?;
+    mark_all(&mut marks, blocks);
+    Ok(marks)
+}
+
+fn mark_all(marks: &mut Vec<bool>, blocks: &[BlockId])
+    ensures { marks.new.items ≡ marked blocks.now marks.old.items }
+{
+    for block in blocks {
+        mark(marks, *block);
     }
 }
 
-/// The edges that lead to each block.
-fn entering_of(alloc: Global, edges: &[Edge]) -> Result<Vec<Listed<Edge>>, NoMemory>
-    ensures { IfOk result (λ rows. Entering edges.now rows.items) }
+fn mark(marks: &mut Vec<bool>, block: BlockId)
+    ensures { marks.new.items ≡ slice_set marks.old.items block true }
 {
-    let mut rows = Vec::new(alloc);
+    if (block as usize) < marks.len() {
+        marks[block as usize] = true;
+    }
+}
+
+/// The edges to blocks that are marked, or behind the marks.
+fn edges_into(alloc: Global, edges: &[Edge], marks: &[bool]) -> Result<Listed<Edge>, NoMemory>
+    ensures { IfOk result (λ into. into ≡ filter (λ (e : Edge). slice_index_or marks.now e.to true) edges.now) }
+{
+    let mut into = Listed::new(alloc);
     for edge in edges {
-        add(alloc, &mut rows, *edge)?;
+        if is_marked(marks, edge.to) {
+            into.push(*edge)?;
+        }
     }
-    Ok(rows)
+    Ok(into)
 }
 
-/// Puts an edge at the end of the row of the block to which it leads.
-fn add(alloc: Global, rows: &mut Vec<Listed<Edge>>, edge: Edge) -> Result<(), NoMemory>
-    ensures { IfOk result (λ _. (c : ℕ) → row_at rows.new.items c ≡ (if edge.to == c then row_at rows.old.items c ++ edge ∷ [] else row_at rows.old.items c)) }
+fn is_marked(marks: &[bool], block: BlockId) -> bool
+    ensures { result ≡ slice_index_or marks.now block true }
 {
-    let place = edge.to as usize;
-    reach(alloc, rows, place)?;
-    let row = &mut rows[place];
-    row.push(edge)?;
-    Ok(())
-}
-
-/// Makes a row be there.
-fn reach(alloc: Global, rows: &mut Vec<Listed<Edge>>, place: usize) -> Result<(), NoMemory>
-    ensures there { IfOk result (λ _. place < length rows.new.items) }
-    ensures same { (c : ℕ) → row_at rows.new.items c ≡ row_at rows.old.items c }
-{
-    while rows.len() <= place {
-        rows.push(Listed::new(alloc))?;
+    match marks.get(block as usize) {
+        Some(mark) => *mark,
+        None => true,
     }
-    Ok(())
 }

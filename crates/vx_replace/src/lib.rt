@@ -7,6 +7,7 @@ mod edges;
 mod exchange;
 pub mod function;
 mod joins;
+mod made_edges;
 mod nodes;
 mod origins;
 mod region;

@@ -1,11 +1,10 @@
-use Rattle.std.proofs.Common.{subst}
-use Rattle.std.proofs.lemmas.List.{take_all}
-use Rattle.vx_replace.specs.TraceLists.{Entering}
-use Rattle.vx_replace.proofs.TraceSteps.{entering_more}
+use Rattle.std.proofs.Common.{◌≡◌, ℕ, true, slice_index_or, subst, sym}
+use Rattle.std.proofs.lemmas.Result.{IfOk-weaker}
+use Rattle.vx_flow.specs.Effects.{IsIn}
+use Rattle.vx_replace.proofs.TraceSteps.{entering_by}
 use Rattle.vx_replace.proofs.joins.entering_of.Goals as goal
 
-pub loop-edge-preserved : goal.loop-edge-preserved
-loop-edge-preserved c = entering_more c.args.edges.now c.loop-edge.edge-index _ c.loop-edge.rows.items c.add.new.rows.items c.loop-edge-test.true c.loop-edge.invariant c.in_ok-add.ensures
-
 pub returns : goal.returns
-returns c = subst (λ es. Entering es c.loop-edge.rows.items) (take_all c.loop-edge.edge-index c.args.edges.now c.loop-edge-test.false) c.loop-edge.invariant
+returns c =
+    let all = subst (λ l. (b : ℕ) → IsIn b c.args.blocks.now → slice_index_or l b true ≡ true) (sym c.as_slice.ensures.value) c.in_ok-marks.ensures in
+    IfOk-weaker c.edges_into.result _ _ (λ into is. entering_by c.as_slice.result.now c.args.blocks.now c.args.edges.now into all is) c.edges_into.ensures

@@ -1,23 +1,11 @@
-use Rattle.std.proofs.Common.{◌∷◌, ◌++◌, ◌∙◌, [], length, map, ap}
+use Rattle.std.proofs.Common.{◌++◌, ◌∙◌, length, map, ap}
 use Rattle.std.proofs.lemmas.Result.{IfOk-from_err}
-use Rattle.vx_mixed.specs.Next.{made_node, made_origin, new_end, nodes_from, renamed_region}
+use Rattle.vx_mixed.specs.Next.{made_node, made_origin, nodes_from}
 use Rattle.vx_replace.proofs.Pushed.{few_blocks}
 use Rattle.vx_replace.proofs.replacement.make_parts.Goals as goal
 
 pub push_old_nodes-requires : goal.push_old_nodes-requires
 push_old_nodes-requires c = few_blocks _ _ _ _ _ c.len.ensures.len (ap length c.as_slice-made.ensures) c.from.ensures c.if-blocks-from.false
-
-pub push_old_regions-requires : goal.push_old_regions-requires
-push_old_regions-requires c = few_blocks _ _ _ _ _ c.len.ensures.len (ap length c.as_slice-made.ensures) c.from.ensures c.if-blocks-from.false
-
-pub region_of-requires-clause-few : goal.region_of-requires-clause-few
-region_of-requires-clause-few c = few_blocks _ _ _ _ _ c.len.ensures.len (ap length c.as_slice-made.ensures) c.from.ensures c.if-blocks-from.false
-
-pub region_of-requires-clause-lists : goal.region_of-requires-clause-lists
-region_of-requires-clause-lists c = c.requires.can.lists
-
-pub region_of-requires-clause-words : goal.region_of-requires-clause-words
-region_of-requires-clause-words c = c.requires.can.words
 
 pub edges_after-requires-clause-few : goal.edges_after-requires-clause-few
 edges_after-requires-clause-few c = few_blocks _ _ _ _ _ c.len.ensures.len (ap length c.as_slice-made.ensures) c.from.ensures c.if-blocks-from.false
@@ -32,28 +20,22 @@ pub edges_after-requires-clause-can : goal.edges_after-requires-clause-can
 edges_after-requires-clause-can c = c.requires.can
 
 pub returns-in_err-push_old_nodes : goal.returns-in_err-push_old_nodes
-returns-in_err-push_old_nodes c = let e = c.from_residual.ensures.0 in record { nodes = IfOk-from_err _ _ e; regions = IfOk-from_err _ _ e; origins = IfOk-from_err _ _ e; edges = IfOk-from_err _ _ e }
+returns-in_err-push_old_nodes c = let e = c.from_residual.ensures.0 in record { few = IfOk-from_err _ _ e; nodes = IfOk-from_err _ _ e; origins = IfOk-from_err _ _ e; edges = IfOk-from_err _ _ e }
 
 pub returns-in_err-push_made_nodes : goal.returns-in_err-push_made_nodes
-returns-in_err-push_made_nodes c = let e = c.from_residual-in_err-push_made_nodes.ensures.0 in record { nodes = IfOk-from_err _ _ e; regions = IfOk-from_err _ _ e; origins = IfOk-from_err _ _ e; edges = IfOk-from_err _ _ e }
-
-pub returns-in_err-push_old_regions : goal.returns-in_err-push_old_regions
-returns-in_err-push_old_regions c = let e = c.from_residual-in_err-push_old_regions.ensures.0 in record { nodes = IfOk-from_err _ _ e; regions = IfOk-from_err _ _ e; origins = IfOk-from_err _ _ e; edges = IfOk-from_err _ _ e }
-
-pub returns-in_err-region : goal.returns-in_err-region
-returns-in_err-region c = let e = c.from_residual-in_err-region.ensures.0 in record { nodes = IfOk-from_err _ _ e; regions = IfOk-from_err _ _ e; origins = IfOk-from_err _ _ e; edges = IfOk-from_err _ _ e }
-
-pub returns-in_err-push : goal.returns-in_err-push
-returns-in_err-push c = let e = c.from_residual-in_err-push.ensures.0 in record { nodes = IfOk-from_err _ _ e; regions = IfOk-from_err _ _ e; origins = IfOk-from_err _ _ e; edges = IfOk-from_err _ _ e }
+returns-in_err-push_made_nodes c = let e = c.from_residual-in_err-push_made_nodes.ensures.0 in record { few = IfOk-from_err _ _ e; nodes = IfOk-from_err _ _ e; origins = IfOk-from_err _ _ e; edges = IfOk-from_err _ _ e }
 
 pub returns-in_err-push_origins : goal.returns-in_err-push_origins
-returns-in_err-push_origins c = let e = c.from_residual-in_err-push_origins.ensures.0 in record { nodes = IfOk-from_err _ _ e; regions = IfOk-from_err _ _ e; origins = IfOk-from_err _ _ e; edges = IfOk-from_err _ _ e }
+returns-in_err-push_origins c = let e = c.from_residual-in_err-push_origins.ensures.0 in record { few = IfOk-from_err _ _ e; nodes = IfOk-from_err _ _ e; origins = IfOk-from_err _ _ e; edges = IfOk-from_err _ _ e }
 
 pub returns-in_err-push_made_origins : goal.returns-in_err-push_made_origins
-returns-in_err-push_made_origins c = let e = c.from_residual-in_err-push_made_origins.ensures.0 in record { nodes = IfOk-from_err _ _ e; regions = IfOk-from_err _ _ e; origins = IfOk-from_err _ _ e; edges = IfOk-from_err _ _ e }
+returns-in_err-push_made_origins c = let e = c.from_residual-in_err-push_made_origins.ensures.0 in record { few = IfOk-from_err _ _ e; nodes = IfOk-from_err _ _ e; origins = IfOk-from_err _ _ e; edges = IfOk-from_err _ _ e }
 
 pub returns-in_err-parts : goal.returns-in_err-parts
-returns-in_err-parts c = let e = c.from_residual-in_err-parts.ensures.0 in record { nodes = IfOk-from_err _ _ e; regions = IfOk-from_err _ _ e; origins = IfOk-from_err _ _ e; edges = IfOk-from_err _ _ e }
+returns-in_err-parts c = let e = c.from_residual-in_err-parts.ensures.0 in record { few = IfOk-from_err _ _ e; nodes = IfOk-from_err _ _ e; origins = IfOk-from_err _ _ e; edges = IfOk-from_err _ _ e }
+
+pub returns-clause-few : goal.returns-clause-few
+returns-clause-few c = few_blocks _ _ _ _ _ c.len.ensures.len (ap length c.as_slice-made.ensures) c.from.ensures c.if-blocks-from.false
 
 pub returns-clause-nodes : goal.returns-clause-nodes
 returns-clause-nodes c =
@@ -61,13 +43,6 @@ returns-clause-nodes c =
     c.in_ok-push_made_nodes.ensures
     ∙ ap (λ l. l ++ map made_node c.as_slice-made.result.now) (c.in_ok-push_old_nodes.ensures ∙ ap (λ l. l ++ old) c.requires.no_nodes)
     ∙ ap (λ made. old ++ map made_node made) c.as_slice-made.ensures
-
-pub returns-clause-regions : goal.returns-clause-regions
-returns-clause-regions c =
-    let old = map (renamed_region (new_end c.args.graph.now c.args.replacement.now.made)) c.args.graph.now.regions in
-    c.in_ok-push.ensures.ok
-    ∙ ap (λ l. l ++ c.in_ok-region.region ∷ []) (c.in_ok-push_old_regions.ensures ∙ ap (λ l. l ++ old) c.requires.no_regions)
-    ∙ ap (λ region. old ++ region ∷ []) c.in_ok-region.ensures
 
 pub returns-clause-origins : goal.returns-clause-origins
 returns-clause-origins c =
