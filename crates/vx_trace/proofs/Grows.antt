@@ -1,19 +1,19 @@
 -- A trace grows by a block, and when it has come to its ends.
-use Rattle.std.proofs.Common.{◌≡◌, ◌⊎◌, inl, inr, ℕ, ◌+◌, ◌<◌, ◌≤◌, Bool, true, false, Option, Some, None, List, [], ◌∷◌, ◌++◌, length, refl, sym, ap, subst, ◌∙◌, arith, eqb, eqb-true}
+use Rattle.std.proofs.Common.{◌≡◌, ◌⊎◌, inl, inr, ℕ, ◌+◌, ◌<◌, ◌≤◌, Bool, true, false, Some, None, List, [], ◌∷◌, ◌++◌, length, refl, sym, ap, subst, ◌∙◌, arith, eqb, eqb-true}
 use Rattle.std.specs.List.{AllByRecursion, list_any, IsDistinct}
 use Rattle.std.proofs.lemmas.Map.Steps.{length-le_from_distinct_below}
 use Rattle.vx_flow.specs.declared.graph.Edge.{Edge}
 use Rattle.vx_flow.specs.Effects.{IsIn}
 use Rattle.vx_flow.specs.Walk.{edge}
+use Rattle.vx_flow.proofs.Members.{in_last}
 use Rattle.vx_mixed.specs.declared.mixed.MixedGraph.{MixedGraph}
 use Rattle.vx_mixed.specs.Settled.{NoTwice}
 use Rattle.vx_mixed.specs.TraceOf.{block_at}
 use Rattle.vx_profile.specs.declared.counts.Counts.{Counts}
-use Rattle.vx_trace.specs.declared.heaviest.Best.{Best}
-use Rattle.vx_trace.specs.Growing.{Way, Linked, IsFree, OnlyOne, HasHeaviest, GrownForward, GrownBackward}
+use Rattle.vx_trace.specs.Growing.{Way, Linked, IsFree, OnlyOne, GrownForward, GrownBackward}
 use Rattle.vx_trace.specs.Picked.{Greatest, IsUnused, Picked, size_of, count_of_block}
 use Rattle.vx_trace.proofs.Readings.{or_cases, unused_below}
-use Rattle.vx_trace.proofs.Unique.{Link, way_of, path_of, keeps_of, size_both}
+use Rattle.vx_trace.proofs.Unique.{way_of, path_of, keeps_of, size_both}
 use Rattle.vx_trace.proofs.Ways.{Pushed, pushed, way_push, way_front, way_alone}
 
 -- forward
@@ -110,6 +110,9 @@ aback_step m Q from t u first next ops more a free q is size fits =
       few = omega arith;
     }
 
+pub last_unused : (m : MixedGraph) (Q : Edge → Type 0) (seed : ℕ) (t : List ℕ) (last ops : ℕ) → Ahead m Q seed t last ops → IsUnused m last
+last_unused m Q seed t last ops a = a.way.blocks last (subst (IsIn last) (sym a.ends) (in_last last a.front))
+
 pub first_unused : (m : MixedGraph) (Q : Edge → Type 0) (from t : List ℕ) (first ops : ℕ) → Aback m Q from t first ops → IsUnused m first
 first_unused m Q from t first ops a = a.way.blocks first (subst (IsIn first) (sym a.begins) (inl refl))
 
@@ -158,36 +161,24 @@ few_blocks m Q t w = length-le_from_distinct_below t (length m.nodes) (distinct 
 
 -- what is picked
 
-link_of : (m : MixedGraph) (counts : Counts) (out into : List (Option Best)) (e : Edge) → HasHeaviest m counts out into → Linked m out into e → Link m counts e
-link_of m counts out into e h l = record { out = (h.outs e).1 l.heaviest_out; into = (h.ins e).1 l.heaviest_in; no_back = l.no_back; no_header = l.no_header; no_call = l.no_call }
-
-linked_of : (m : MixedGraph) (counts : Counts) (out into : List (Option Best)) (e : Edge) → HasHeaviest m counts out into → Link m counts e → Linked m out into e
-linked_of m counts out into e h l = record { heaviest_out = (h.outs e).0 l.out; heaviest_in = (h.ins e).0 l.into; no_back = l.no_back; no_header = l.no_header; no_call = l.no_call }
-
-way_map : {P : ℕ → Type 0} {Q R : Edge → Type 0} (t : List ℕ) → ((e : Edge) → Q e → R e) → Way P Q t → Way P R t
-way_map t f w = record { blocks = w.blocks; once = w.once; edges = λ e i. f e (w.edges e i) }
-
-pub picked : (m : MixedGraph) (counts : Counts) (seed : ℕ) (out into : List (Option Best)) (from t : List ℕ) → Greatest (IsUnused m) (count_of_block m counts) (λ b. b) seed → HasHeaviest m counts out into →
-    GrownForward m (Linked m out into) seed from → GrownBackward m (Linked m out into) from t → Picked m counts t
-picked m counts seed out into from t greatest h f g =
-    let way : Way (IsUnused m) (Link m counts) t = way_map t (λ e. link_of m counts out into e h) g.way in
-    record {
-      before = g.before;
-      seed = seed;
-      after = f.after;
-      parts = g.is ∙ ap (λ z. g.before ++ z) f.is;
-      greatest = greatest;
-      path = path_of m counts t way;
-      keeps_on = keeps_of m counts t way;
-      small = elim g.small [
-        | inl none ↦ (let same : t ≡ from = g.is ∙ ap (λ z. z ++ from) none in elim f.small [
-          | inl alone ↦ inl (same ∙ f.is ∙ ap (λ z. seed ∷ z) alone)
-          | inr few ↦ inr (subst (λ z. size_of m z ≤ 512) (sym same) few)
-        ])
-        | inr few ↦ inr few
-      ];
-      ends = λ b p k.
-          let w : Way (IsUnused m) (Linked m out into) (seed ∷ f.after ++ b ∷ []) = way_map (seed ∷ f.after ++ b ∷ []) (λ e. linked_of m counts out into e h) (way_of m counts (seed ∷ f.after ++ b ∷ []) p k) in
-          subst (λ z. 512 < size_of m (z ++ b ∷ [])) f.is (f.ends b (subst (λ z. Way (IsUnused m) (Linked m out into) (z ++ b ∷ [])) (sym f.is) w));
-      begins = λ b p k. g.begins b (way_map (b ∷ t) (λ e. linked_of m counts out into e h) (way_of m counts (b ∷ t) p k));
-    }
+pub picked : (m : MixedGraph) (counts : Counts) (seed : ℕ) (from t : List ℕ) → Greatest (IsUnused m) (count_of_block m counts) (λ b. b) seed → GrownForward m (Linked m counts) seed from → GrownBackward m (Linked m counts) from t → Picked m counts t
+picked m counts seed from t greatest f g = record {
+  before = g.before;
+  seed = seed;
+  after = f.after;
+  parts = g.is ∙ ap (λ z. g.before ++ z) f.is;
+  greatest = greatest;
+  path = path_of m counts t g.way;
+  keeps_on = keeps_of m counts t g.way;
+  small = elim g.small [
+    | inl none ↦ (let same : t ≡ from = g.is ∙ ap (λ z. z ++ from) none in elim f.small [
+      | inl alone ↦ inl (same ∙ f.is ∙ ap (λ z. seed ∷ z) alone)
+      | inr few ↦ inr (subst (λ z. size_of m z ≤ 512) (sym same) few)
+    ])
+    | inr few ↦ inr few
+  ];
+  ends = λ b p k.
+      let w = way_of m counts (seed ∷ f.after ++ b ∷ []) p k in
+      subst (λ z. 512 < size_of m (z ++ b ∷ [])) f.is (f.ends b (subst (λ z. Way (IsUnused m) (Linked m counts) (z ++ b ∷ [])) (sym f.is) w));
+  begins = λ b p k. g.begins b (way_of m counts (b ∷ t) p k);
+}

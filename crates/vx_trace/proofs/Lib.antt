@@ -1,7 +1,6 @@
 pub mod Ways
 pub mod Unique
 pub mod Readings
-pub mod Tables
+pub mod Bests
 pub mod Grows
 pub mod Seeds
-pub mod Lone

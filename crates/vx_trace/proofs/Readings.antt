@@ -45,7 +45,7 @@ and_both false b p q = p
 
 -- unused blocks
 
-unused_node : (node : Option Node) (block : Block) → unused_in node ≡ Some block → node ≡ Some (Unused block)
+pub unused_node : (node : Option Node) (block : Block) → unused_in node ≡ Some block → node ≡ Some (Unused block)
 unused_node None block e = absurd (cc)
 unused_node (Some (Unused k)) block e = let q : k ≡ block = cc in ap (λ z. Some (Unused z)) q
 unused_node (Some (Enters r w)) block e = absurd (cc)

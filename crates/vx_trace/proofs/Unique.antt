@@ -4,10 +4,10 @@ use Rattle.vx_flow.specs.declared.graph.Edge.{Edge}
 use Rattle.vx_flow.specs.Effects.{IsIn}
 use Rattle.vx_flow.specs.Walk.{edge}
 use Rattle.vx_mixed.specs.declared.mixed.MixedGraph.{MixedGraph}
-use Rattle.vx_mixed.specs.TraceOf.{EndsWithCall, block_at, inner_edges}
+use Rattle.vx_mixed.specs.TraceOf.{inner_edges}
 use Rattle.vx_profile.specs.declared.counts.Counts.{Counts}
-use Rattle.vx_trace.specs.Picked.{Greatest, HeaviestOut, HeaviestIn, IsUnused, IsPath, KeepsOn, Picked, OnePick, size_of}
-use Rattle.vx_trace.specs.Growing.{Way}
+use Rattle.vx_trace.specs.Picked.{Greatest, IsUnused, IsPath, KeepsOn, Picked, OnePick, size_of}
+use Rattle.vx_trace.specs.Growing.{Linked, Way}
 use Rattle.vx_trace.proofs.Ways.{inner_cons, way_left, way_right, way_behind}
 
 -- the greatest is one
@@ -21,31 +21,23 @@ order_one c d n k (inr a) (inr b) = let x = a.1 in let y = b.1 in omega arith
 pub greatest_one : {A : Type 0} {Is : A → Type 0} {count number : A → ℕ} (x y : A) → Greatest Is count number x → Greatest Is count number y → number x ≡ number y
 greatest_one {count = count} {number = number} x y g h = order_one (count y) (count x) (number x) (number y) (g.others y h.is) (h.others x g.is)
 
--- what an edge of a trace keeps
-pub record Link (m : MixedGraph) (counts : Counts) (e : Edge) : Type 0 where
-  pub out : HeaviestOut m counts e
-  pub into : HeaviestIn m counts e
-  pub no_back : IsIn e m.back → ⊥
-  pub no_header : IsIn e.to m.headers → ⊥
-  pub no_call : EndsWithCall (block_at m e.from).exit → ⊥
-
-pub way_of : (m : MixedGraph) (counts : Counts) (t : List ℕ) → IsPath m counts t → KeepsOn m t → Way (IsUnused m) (Link m counts) t
+pub way_of : (m : MixedGraph) (counts : Counts) (t : List ℕ) → IsPath m counts t → KeepsOn m t → Way (IsUnused m) (Linked m counts) t
 way_of m counts t p k = record {
   blocks = p.unused;
   once = p.once;
-  edges = λ e i. record { out = p.out e i; into = p.into e i; no_back = k.no_back e i; no_header = k.no_header e i; no_call = k.no_call e i };
+  edges = λ e i. record { out = p.out e i; into = p.into e i; passes = record { no_back = k.no_back e i; no_header = k.no_header e i; no_call = k.no_call e i } };
 }
 
-pub path_of : (m : MixedGraph) (counts : Counts) (t : List ℕ) → Way (IsUnused m) (Link m counts) t → IsPath m counts t
+pub path_of : (m : MixedGraph) (counts : Counts) (t : List ℕ) → Way (IsUnused m) (Linked m counts) t → IsPath m counts t
 path_of m counts t w = record { unused = w.blocks; once = w.once; out = λ e i. (w.edges e i).out; into = λ e i. (w.edges e i).into }
 
-pub keeps_of : (m : MixedGraph) (counts : Counts) (t : List ℕ) → Way (IsUnused m) (Link m counts) t → KeepsOn m t
-keeps_of m counts t w = record { no_back = λ e i. (w.edges e i).no_back; no_header = λ e i. (w.edges e i).no_header; no_call = λ e i. (w.edges e i).no_call }
+pub keeps_of : (m : MixedGraph) (counts : Counts) (t : List ℕ) → Way (IsUnused m) (Linked m counts) t → KeepsOn m t
+keeps_of m counts t w = record { no_back = λ e i. (w.edges e i).passes.no_back; no_header = λ e i. (w.edges e i).passes.no_header; no_call = λ e i. (w.edges e i).passes.no_call }
 
-pub out_one : (m : MixedGraph) (counts : Counts) (b x y : ℕ) → Link m counts (edge b x) → Link m counts (edge b y) → x ≡ y
+pub out_one : (m : MixedGraph) (counts : Counts) (b x y : ℕ) → Linked m counts (edge b x) → Linked m counts (edge b y) → x ≡ y
 out_one m counts b x y g h = greatest_one (edge b x) (edge b y) g.out h.out
 
-pub into_one : (m : MixedGraph) (counts : Counts) (x y b : ℕ) → Link m counts (edge x b) → Link m counts (edge y b) → x ≡ y
+pub into_one : (m : MixedGraph) (counts : Counts) (x y b : ℕ) → Linked m counts (edge x b) → Linked m counts (edge y b) → x ≡ y
 into_one m counts x y b g h = greatest_one (edge x b) (edge y b) g.into h.into
 
 pub size_both : (m : MixedGraph) (xs ys : List ℕ) → size_of m (xs ++ ys) ≡ size_of m xs + size_of m ys
@@ -95,7 +87,7 @@ length_onto (x ∷ r) ys = let h = length_onto r (x ∷ ys) in omega arith
 
 -- each next block is the one
 
-forward : (m : MixedGraph) (counts : Counts) (s : ℕ) (u v : List ℕ) → ((e : Edge) → IsIn e (inner_edges (s ∷ u)) → Link m counts e) → ((e : Edge) → IsIn e (inner_edges (s ∷ v)) → Link m counts e) → Beside u v
+forward : (m : MixedGraph) (counts : Counts) (s : ℕ) (u v : List ℕ) → ((e : Edge) → IsIn e (inner_edges (s ∷ u)) → Linked m counts e) → ((e : Edge) → IsIn e (inner_edges (s ∷ v)) → Linked m counts e) → Beside u v
 forward m counts s [] [] a b = same refl
 forward m counts s [] (y ∷ v) a b = longer y v refl
 forward m counts s (x ∷ u) [] a b = shorter x u refl
@@ -103,7 +95,7 @@ forward m counts s (x ∷ u) (y ∷ v) a b =
     let q : x ≡ y = out_one m counts s x y (a (edge s x) (inl refl)) (b (edge s y) (inl refl)) in
     beside_cons x y u v q (forward m counts x u v (λ e i. a e (inr i)) (λ e i. b e (inr (subst (λ z. IsIn e (inner_edges (z ∷ v))) q i))))
 
-backward : (m : MixedGraph) (counts : Counts) (s : ℕ) (ys u v : List ℕ) → ((e : Edge) → IsIn e (inner_edges (onto u (s ∷ ys))) → Link m counts e) → ((e : Edge) → IsIn e (inner_edges (onto v (s ∷ ys))) → Link m counts e) → Beside u v
+backward : (m : MixedGraph) (counts : Counts) (s : ℕ) (ys u v : List ℕ) → ((e : Edge) → IsIn e (inner_edges (onto u (s ∷ ys))) → Linked m counts e) → ((e : Edge) → IsIn e (inner_edges (onto v (s ∷ ys))) → Linked m counts e) → Beside u v
 backward m counts s ys [] [] a b = same refl
 backward m counts s ys [] (y ∷ v) a b = longer y v refl
 backward m counts s ys (x ∷ u) [] a b = shorter x u refl
@@ -113,18 +105,18 @@ backward m counts s ys (x ∷ u) (y ∷ v) a b =
 
 -- a trace, its parts known
 record At (m : MixedGraph) (counts : Counts) (before : List ℕ) (seed : ℕ) (after : List ℕ) : Type 0 where
-  pub way : Way (IsUnused m) (Link m counts) (before ++ seed ∷ after)
+  pub way : Way (IsUnused m) (Linked m counts) (before ++ seed ∷ after)
   pub small : (before ++ seed ∷ after ≡ seed ∷ []) ⊎ (size_of m (before ++ seed ∷ after) ≤ 512)
-  pub ends : (b : ℕ) → Way (IsUnused m) (Link m counts) (seed ∷ after ++ b ∷ []) → 512 < size_of m (seed ∷ after ++ b ∷ [])
-  pub begins : (b : ℕ) → Way (IsUnused m) (Link m counts) (b ∷ before ++ seed ∷ after) → 512 < size_of m (b ∷ before ++ seed ∷ after)
+  pub ends : (b : ℕ) → Way (IsUnused m) (Linked m counts) (seed ∷ after ++ b ∷ []) → 512 < size_of m (seed ∷ after ++ b ∷ [])
+  pub begins : (b : ℕ) → Way (IsUnused m) (Linked m counts) (b ∷ before ++ seed ∷ after) → 512 < size_of m (b ∷ before ++ seed ∷ after)
 
 at_of : (m : MixedGraph) (counts : Counts) (t : List ℕ) (p : Picked m counts t) → At m counts p.before p.seed p.after
 at_of m counts t p = record {
-  way = subst (Way (IsUnused m) (Link m counts)) p.parts (way_of m counts t p.path p.keeps_on);
+  way = subst (Way (IsUnused m) (Linked m counts)) p.parts (way_of m counts t p.path p.keeps_on);
   small = elim p.small [ inl q ↦ inl (sym p.parts ∙ q) | inr h ↦ inr (subst (λ z. size_of m z ≤ 512) p.parts h) ];
   ends = λ b w. p.ends b (path_of m counts (p.seed ∷ p.after ++ b ∷ []) w) (keeps_of m counts (p.seed ∷ p.after ++ b ∷ []) w);
   begins = λ b w.
-      let v : Way (IsUnused m) (Link m counts) (b ∷ t) = subst (λ z. Way (IsUnused m) (Link m counts) (b ∷ z)) (sym p.parts) w in
+      let v : Way (IsUnused m) (Linked m counts) (b ∷ t) = subst (λ z. Way (IsUnused m) (Linked m counts) (b ∷ z)) (sym p.parts) w in
       subst (λ z. 512 < size_of m (b ∷ z)) p.parts (p.begins b (path_of m counts (b ∷ t) v) (keeps_of m counts (b ∷ t) v));
 }
 
@@ -152,8 +144,8 @@ beyond m before s u v y r q (inr few) big =
 
 after_beyond : (m : MixedGraph) (counts : Counts) (before before' : List ℕ) (s : ℕ) (u v : List ℕ) (y : ℕ) (r : List ℕ) → At m counts before s u → At m counts before' s v → v ≡ u ++ y ∷ r → ⊥
 after_beyond m counts before before' s u v y r g h q =
-    let w : Way (IsUnused m) (Link m counts) (s ∷ v) = way_right before' (s ∷ v) h.way in
-    let k : Way (IsUnused m) (Link m counts) ((s ∷ u ++ y ∷ []) ++ r) = subst (λ z. Way (IsUnused m) (Link m counts) (s ∷ z)) (q ∙ sym (append_assoc u (y ∷ []) r)) w in
+    let w : Way (IsUnused m) (Linked m counts) (s ∷ v) = way_right before' (s ∷ v) h.way in
+    let k : Way (IsUnused m) (Linked m counts) ((s ∷ u ++ y ∷ []) ++ r) = subst (λ z. Way (IsUnused m) (Linked m counts) (s ∷ z)) (q ∙ sym (append_assoc u (y ∷ []) r)) w in
     beyond m before' s u v y r q h.small (g.ends y (way_left (s ∷ u ++ y ∷ []) r k))
 
 after_one : (m : MixedGraph) (counts : Counts) (before before' : List ℕ) (s : ℕ) (u v : List ℕ) → At m counts before s u → At m counts before' s v → u ≡ v
@@ -166,7 +158,7 @@ after_one m counts before before' s u v g h =
 
 before_beyond : (m : MixedGraph) (counts : Counts) (before before' : List ℕ) (s : ℕ) (u : List ℕ) (y : ℕ) (r : List ℕ) → At m counts before s u → At m counts before' s u → before' ++ s ∷ u ≡ onto r (y ∷ before ++ s ∷ u) → ⊥
 before_beyond m counts before before' s u y r g h q =
-    let w : Way (IsUnused m) (Link m counts) (y ∷ before ++ s ∷ u) = way_onto r (y ∷ before ++ s ∷ u) (subst (Way (IsUnused m) (Link m counts)) q h.way) in
+    let w : Way (IsUnused m) (Linked m counts) (y ∷ before ++ s ∷ u) = way_onto r (y ∷ before ++ s ∷ u) (subst (Way (IsUnused m) (Linked m counts)) q h.way) in
     let big = g.begins y w in
     let size = size_onto m r (y ∷ before ++ s ∷ u) in
     let many = length_onto r (y ∷ before ++ s ∷ u) in
@@ -183,8 +175,8 @@ before_one m counts before before' s u g h =
     let q = turned before' in
     let is_p = p.1 (s ∷ u) in
     let is_q = q.1 (s ∷ u) in
-    let by_p : (e : Edge) → IsIn e (inner_edges (onto p.0 (s ∷ u))) → Link m counts e = λ e i. g.way.edges e (subst (λ z. IsIn e (inner_edges z)) (sym is_p) i) in
-    let by_q : (e : Edge) → IsIn e (inner_edges (onto q.0 (s ∷ u))) → Link m counts e = λ e i. h.way.edges e (subst (λ z. IsIn e (inner_edges z)) (sym is_q) i) in
+    let by_p : (e : Edge) → IsIn e (inner_edges (onto p.0 (s ∷ u))) → Linked m counts e = λ e i. g.way.edges e (subst (λ z. IsIn e (inner_edges z)) (sym is_p) i) in
+    let by_q : (e : Edge) → IsIn e (inner_edges (onto q.0 (s ∷ u))) → Linked m counts e = λ e i. h.way.edges e (subst (λ z. IsIn e (inner_edges z)) (sym is_q) i) in
     elim (backward m counts s u p.0 q.0 by_p by_q) [
       | same k ↦ is_p ∙ ap (λ z. onto z (s ∷ u)) k ∙ sym is_q
       | longer y r k ↦ absurd (before_beyond m counts before before' s u y r g h (is_q ∙ ap (λ z. onto z (s ∷ u)) k ∙ onto_both p.0 (y ∷ r) (s ∷ u) ∙ ap (λ z. onto r (y ∷ z)) (sym is_p)))

@@ -1,17 +1,14 @@
 -- How a trace grows: the tables of heaviest edges, and what is known of the blocks so far.
-use Rattle.std.specs.Prelude.{◌≡◌, ◌==◌, ◌<◌, ◌≤◌, ◌⊎◌, ◌↔◌, ◌&&◌, ◌||◌, ℕ, Bool, true, false, nat_lt, if◌then◌else◌, Option, Some, None, List, [], ◌∷◌, ◌++◌, slice_get}
+use Rattle.std.specs.Prelude.{◌≡◌, ◌==◌, ◌<◌, ◌≤◌, ◌⊎◌, ◌&&◌, ◌||◌, ℕ, Bool, nat_lt, if◌then◌else◌, Option, Some, None, List, [], ◌∷◌, ◌++◌}
 use Rattle.vx_flow.specs.declared.graph.Edge.{Edge}
 use Rattle.vx_flow.specs.Effects.{IsIn}
 use Rattle.vx_flow.specs.Walk.{edge}
 use Rattle.vx_mixed.specs.declared.mixed.MixedGraph.{MixedGraph}
-use Rattle.vx_mixed.specs.declared.region.Node.{Node}
-use Rattle.vx_mixed.specs.declared.region.Node.TheVariants.{Unused}
-use Rattle.vx_mixed.specs.Edges.{IsEdge}
 use Rattle.vx_mixed.specs.Settled.{NoTwice}
 use Rattle.vx_mixed.specs.TraceOf.{EndsWithCall, block_at, inner_edges}
 use Rattle.vx_profile.specs.declared.counts.Counts.{Counts}
 use Rattle.vx_trace.specs.declared.heaviest.Best.{Best}
-use Rattle.vx_trace.specs.Picked.{Greatest, HeaviestOut, HeaviestIn, IsUnused, count_of_block, size_of}
+use Rattle.vx_trace.specs.Picked.{Greatest, HeaviestOut, HeaviestIn, IsUnused, count_of_block, count_of_edge, size_of}
 
 -- the best of several, one after the other
 
@@ -31,27 +28,32 @@ abbrev pub IsSeed : MixedGraph → Counts → Option ℕ → Type 0
 IsSeed m counts None = (b : ℕ) → IsUnused m b → ⊥
 IsSeed m counts (Some b) = Greatest (IsUnused m) (count_of_block m counts) (λ c. c) b
 
--- for each block the best of these edges at it
-abbrev pub Tabled : (end other count : Edge → ℕ) → List Edge → List (Option Best) → Type 0
-Tabled end other count edges table = (b : ℕ) (best : Option Best) → slice_get table b ≡ Some best → BestOf (λ e. IsIn e edges × (end e ≡ b)) count other best
+-- to which block the heaviest edge out of block b goes, if an edge goes out of it
+abbrev pub HasTarget : MixedGraph → Counts → ℕ → Option ℕ → Type 0
+HasTarget m counts b None = (c : ℕ) → HeaviestOut m counts (edge b c) → ⊥
+HasTarget m counts b (Some c) = HeaviestOut m counts (edge b c)
 
-abbrev pub other_of : Option (Option Best) → Option ℕ
-other_of None = None
-other_of (Some None) = None
-other_of (Some (Some b)) = Some b.other
+-- to which of some targets of block b the heaviest edge goes, if there is one
+abbrev pub HeaviestOf : MixedGraph → Counts → ℕ → List ℕ → Option ℕ → Type 0
+HeaviestOf m counts b targets None = (c : ℕ) → IsIn c targets → ⊥
+HeaviestOf m counts b targets (Some c) = Greatest (λ d. IsIn d targets) (λ d. count_of_edge m counts (edge b d)) (λ d. d) c
 
--- the tables tell which edges are the heaviest
-pub record HasHeaviest (m : MixedGraph) (counts : Counts) (out into : List (Option Best)) : Type 0 where
-  pub outs : (e : Edge) → HeaviestOut m counts e ↔ (other_of (slice_get out e.from) ≡ Some e.to)
-  pub ins : (e : Edge) → HeaviestIn m counts e ↔ (other_of (slice_get into e.to) ≡ Some e.from)
+-- from which block the heaviest edge into block b comes, if an edge goes to it
+abbrev pub HasSource : MixedGraph → Counts → ℕ → Option ℕ → Type 0
+HasSource m counts b None = (c : ℕ) → HeaviestIn m counts (edge c b) → ⊥
+HasSource m counts b (Some c) = HeaviestIn m counts (edge c b)
 
--- an edge along which a trace may go, by the tables
-pub record Linked (m : MixedGraph) (out into : List (Option Best)) (e : Edge) : Type 0 where
-  pub heaviest_out : other_of (slice_get out e.from) ≡ Some e.to
-  pub heaviest_in : other_of (slice_get into e.to) ≡ Some e.from
+-- a trace may go along the edge, whatever edges are heavier
+pub record Passes (m : MixedGraph) (e : Edge) : Type 0 where
   pub no_back : IsIn e m.back → ⊥
   pub no_header : IsIn e.to m.headers → ⊥
   pub no_call : EndsWithCall (block_at m e.from).exit → ⊥
+
+-- an edge along which a trace may go
+pub record Linked (m : MixedGraph) (counts : Counts) (e : Edge) : Type 0 where
+  pub out : HeaviestOut m counts e
+  pub into : HeaviestIn m counts e
+  pub passes : Passes m e
 
 -- a way over blocks of one kind, each once, and along edges of one kind
 pub record Way (P : ℕ → Type 0) (Q : Edge → Type 0) (t : List ℕ) : Type 0 where
@@ -83,18 +85,3 @@ pub record GrownBackward (m : MixedGraph) (Q : Edge → Type 0) (from t : List �
   pub way : Way (IsUnused m) Q t
   pub small : (before ≡ []) ⊎ (size_of m t ≤ 512)
   pub begins : (b : ℕ) → Way (IsUnused m) Q (b ∷ t) → 512 < size_of m (b ∷ t)
-
--- a seed that cannot grow
-
--- the block is in no region
-abbrev pub is_left : Option Node → Bool
-is_left (Some (Unused block)) = true
-is_left other = false
-
--- the edge goes from block b to an unused one or from one to b
-abbrev pub leads_on : MixedGraph → ℕ → Edge → Bool
-leads_on m b e = ((e.from == b) && is_left (slice_get m.nodes e.to)) || ((e.to == b) && is_left (slice_get m.nodes e.from))
-
--- no edge leads from block b to an unused block or from one to b
-abbrev pub StandsAlone : MixedGraph → ℕ → Type 0
-StandsAlone m b = (c : ℕ) → IsUnused m c → (IsEdge m (edge b c) → ⊥) × (IsEdge m (edge c b) → ⊥)

@@ -1,10 +1,9 @@
 // What is read of a block of the graph.
 
-ghost use Rattle.std.specs.Prelude.{◌≡◌, ◌==◌, ◌<◌, ◌^◌, true, false, length, slice_get};
+ghost use Rattle.std.specs.Prelude.{◌≡◌, ◌==◌, ◌<◌, ◌^◌, true, false, length};
 ghost use Rattle.std.specs.List.{list_any};
 ghost use Rattle.vx_flow.specs.Effects.{IsIn};
 ghost use Rattle.vx_mixed.specs.TraceOf.{block_at, EndsWithCall};
-ghost use Rattle.vx_trace.specs.Growing.{is_left, leads_on};
 ghost use Rattle.vx_trace.specs.Picked.{IsUnused};
 
 use vx_flow::graph::{BlockId, Edge, Exit};
@@ -99,26 +98,4 @@ pub(crate) fn is_back(mixed: &Mixed, edge: Edge) -> bool
     ensures fails { result ≡ false → IsIn edge mixed.now.back → ⊥ }
 {
     mixed.is_back(edge)
-}
-
-/// Whether an edge goes from this block to an unused one or from one to this block.
-pub(crate) fn leads_on(mixed: &Mixed, block: BlockId, edge: Edge) -> bool
-    ensures { result ≡ leads_on mixed.now block edge }
-{
-    (edge.from == block && is_left(mixed, edge.to))
-        || (edge.to == block && is_left(mixed, edge.from))
-}
-
-/// Whether the block is in no region.
-fn is_left(mixed: &Mixed, block: BlockId) -> bool
-    ensures { result ≡ is_left (slice_get mixed.now.nodes block) }
-{
-    if block < mixed.blocks() {
-        match mixed.unused(block) {
-            Some(_) => true,
-            None => false,
-        }
-    } else {
-        false
-    }
 }

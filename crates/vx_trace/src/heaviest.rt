@@ -1,14 +1,15 @@
-// The block with the greatest count, and for each block the heaviest edge out of it and the heaviest into it: one pass over all
-// blocks, and one over all edges.
+// The block with the greatest count, and the heaviest edges at a block: those out of it by its exit, those into it in one pass over
+// all edges, which asks for the counts of those at that block alone.
 
-ghost use Rattle.std.specs.Prelude.{◌≡◌, ◌<◌, None, Some, IfOk, length, replicate, slice_get, slice_index_or, slice_set};
-ghost use Rattle.vx_trace.specs.Growing.{better, HasHeaviest, IsSeed, other_of};
+ghost use Rattle.std.specs.Prelude.{◌≡◌, ◌<◌, ◌≤◌, ◌⊎◌, ◌∷◌, [], true, false, Some};
+ghost use Rattle.vx_flow.specs.Effects.{IsIn};
+ghost use Rattle.vx_flow.specs.Sound.{targets_of};
+ghost use Rattle.vx_trace.specs.Growing.{better, BestOf, HasSource, HasTarget, HeaviestOf, IsSeed};
+ghost use Rattle.vx_trace.specs.Picked.{IsUnused, count_of_edge};
 
 use crate::blocks::is_unused;
 use crate::counts::{count_of_block, count_of_edge};
-use std::alloc::Global;
-use vx_base::outcome::NoMemory;
-use vx_flow::graph::BlockId;
+use vx_flow::graph::{BlockId, Edge, Exit};
 use vx_profile::counts::Counts;
 use vx_replace::Mixed;
 
@@ -19,39 +20,6 @@ pub struct Best {
     pub other: BlockId,
     /// The count of the block or the edge.
     pub count: u64,
-}
-
-/// For each block the heaviest edge out of it and the heaviest into it.
-#[derive(Drop)]
-pub struct Heaviest {
-    out: Vec<Option<Best>>,
-    into: Vec<Option<Best>>,
-}
-
-impl Heaviest {
-    /// To which block the heaviest edge out of a block goes.
-    pub(crate) fn target(&self, block: BlockId) -> Option<BlockId>
-        ensures { result ≡ other_of (slice_get self.now.out.items block) }
-    {
-        other_of(self.out.as_slice(), block)
-    }
-
-    /// From which block the heaviest edge into a block comes.
-    pub(crate) fn source(&self, block: BlockId) -> Option<BlockId>
-        ensures { result ≡ other_of (slice_get self.now.into.items block) }
-    {
-        other_of(self.into.as_slice(), block)
-    }
-}
-
-fn other_of(table: &[Option<Best>], block: BlockId) -> Option<BlockId>
-    ensures { result ≡ other_of (slice_get table.now block) }
-{
-    match table.get(block as usize) {
-        Some(Some(best)) => Some(best.other),
-        Some(None) => None,
-        None => None,
-    }
 }
 
 /// The unused block with the greatest count, of several the one with the lowest number; `None` where no block is unused.
@@ -70,41 +38,74 @@ pub(crate) fn seed(mixed: &Mixed, counts: &Counts) -> Option<BlockId>
     }
 }
 
-/// The heaviest edges at each block, ties to the lowest other block.
-pub(crate) fn heaviest_edges(
-    alloc: Global,
-    mixed: &Mixed,
-    counts: &Counts,
-) -> Result<Heaviest, NoMemory>
-    ensures { IfOk result (λ found. HasHeaviest mixed.now counts.now found.out.items found.into.items) }
+/// To which block the heaviest edge out of an unused block goes, of several the one to the lowest block; `None` where none goes
+/// out of it.
+pub(crate) fn target(mixed: &Mixed, counts: &Counts, block: BlockId) -> Option<BlockId>
+    requires { IsUnused mixed.now block }
+    ensures { HasTarget mixed.now counts.now block result }
 {
     mixed.keeps_valid();
-    let blocks = mixed.blocks() as usize;
-    let mut out = nothing(alloc, blocks)?;
-    let mut into = nothing(alloc, blocks)?;
-    let edges = mixed.edges();
-    for edge in edges {
-        let count = count_of_edge(mixed, counts, *edge);
-        offer(&mut out, edge.from, edge.to, count);
-        offer(&mut into, edge.to, edge.from, count);
+    match mixed.unused(block) {
+        Some(unused) => heaviest_of(mixed, counts, block, &unused.exit),
+        None => None,
     }
-    Ok(Heaviest { out, into })
 }
 
-/// An empty table.
-fn nothing(alloc: Global, blocks: usize) -> Result<Vec<Option<Best>>, NoMemory>
-    ensures { IfOk result (λ table. table.items ≡ replicate blocks None) }
+/// The target to which the heaviest edge of an exit goes.
+fn heaviest_of(mixed: &Mixed, counts: &Counts, from: BlockId, exit: &Exit) -> Option<BlockId>
+    ensures { HeaviestOf mixed.now counts.now from (targets_of exit.now) result }
 {
-    Ok(vec![in alloc; None; blocks]?)
+    match exit {
+        Exit::Goto(to) => Some(*to),
+        Exit::Split { yes, no, .. } => Some(heavier(mixed, counts, from, *yes, *no)),
+        Exit::Call { next, .. } => Some(*next),
+        Exit::Return(_) => None,
+        Exit::Ends(_) => None,
+    }
 }
 
-/// Puts an edge into the row of a block, if it is better than what is there.
-fn offer(table: &mut Vec<Option<Best>>, block: BlockId, other: BlockId, count: u64)
-    requires { block < length table.old.items }
-    ensures { table.new.items ≡ slice_set table.old.items block (Some (better (slice_index_or table.old.items block None) other count)) }
+/// To which of two targets the heavier edge goes.
+fn heavier(mixed: &Mixed, counts: &Counts, from: BlockId, yes: BlockId, no: BlockId) -> BlockId
+    ensures { HeaviestOf mixed.now counts.now from (yes ∷ no ∷ []) (Some result) }
 {
-    let best = better(table[block as usize], other, count);
-    table[block as usize] = Some(best);
+    let first = count_of_edge(mixed, counts, Edge { from, to: yes });
+    let second = count_of_edge(mixed, counts, Edge { from, to: no });
+    if is_heavier(second, no, first, yes) {
+        no
+    } else {
+        yes
+    }
+}
+
+/// Whether a count is greater than another one, or the same with a lower number.
+fn is_heavier(count: u64, number: BlockId, other: u64, other_number: BlockId) -> bool
+    ensures holds { result ≡ true → (other < count) ⊎ ((other ≡ count) × (number ≤ other_number)) }
+    ensures fails { result ≡ false → (count < other) ⊎ ((count ≡ other) × (other_number ≤ number)) }
+{
+    other < count || (other == count && number < other_number)
+}
+
+/// From which block the heaviest edge into a block comes, of several the one from the lowest block; `None` where none goes to it.
+pub(crate) fn source(mixed: &Mixed, counts: &Counts, block: BlockId) -> Option<BlockId>
+    ensures { HasSource mixed.now counts.now block result }
+{
+    match best_in(mixed, counts, mixed.edges(), block) {
+        Some(best) => Some(best.other),
+        None => None,
+    }
+}
+
+/// The best of these edges that go to a block.
+fn best_in(mixed: &Mixed, counts: &Counts, edges: &[Edge], block: BlockId) -> Option<Best>
+    ensures { BestOf (λ e. IsIn e edges.now × (e.to ≡ block)) (count_of_edge mixed.now counts.now) (λ e. e.from) result }
+{
+    let mut best = None;
+    for edge in edges {
+        if edge.to == block {
+            best = Some(better(best, edge.from, count_of_edge(mixed, counts, *edge)));
+        }
+    }
+    best
 }
 
 /// The better of the best so far and another.

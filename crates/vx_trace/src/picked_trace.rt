@@ -1,23 +1,21 @@
 // The trace that is picked. The clause of `pick` carries the promise; specs/Picked.antt says which trace it is.
 
-ghost use Rattle.std.specs.Prelude.{◌≡◌, false, Some, IfOk};
-ghost use Rattle.std.specs.List.{list_any};
-ghost use Rattle.vx_trace.specs.Growing.{IsSeed, leads_on, StandsAlone};
+ghost use Rattle.std.specs.Prelude.{◌≡◌, Some, IfOk};
+ghost use Rattle.vx_trace.specs.Growing.{IsSeed};
 ghost use Rattle.vx_trace.specs.Picked.{Picked, Picks, count_of_block, greatest_count};
 
-use crate::blocks::leads_on;
 use crate::counts::count_of_block;
-use crate::growth::{alone, backward, forward};
-use crate::heaviest::{heaviest_edges, seed};
+use crate::growth::{backward, forward};
+use crate::heaviest::seed;
 use std::alloc::Global;
 use vx_base::listed::Listed;
 use vx_base::outcome::NoMemory;
-use vx_flow::graph::{BlockId, Edge};
+use vx_flow::graph::BlockId;
 use vx_profile::counts::Counts;
 use vx_replace::Mixed;
 
 /// The blocks of the trace that is picked in a graph by these counts, in its order; `None` where no block is unused. It looks
-/// at each block and at the ends of each edge, and where the seed can grow once at the count of each edge.
+/// once at each block, and for each block of the trace and for each of its ends once at the ends of all edges.
 pub fn pick(
     alloc: Global,
     mixed: &Mixed,
@@ -28,46 +26,11 @@ pub fn pick(
     match seed(mixed, counts) {
         None => Ok(None),
         Some(seed) => {
-            let blocks = picked_from(alloc, mixed, counts, seed)?;
+            let blocks = grown_from(alloc, mixed, counts, seed)?;
             let list = Listed::from_vec(blocks)?;
             Ok(Some(list))
         }
     }
-}
-
-/// The trace of this seed.
-fn picked_from(
-    alloc: Global,
-    mixed: &Mixed,
-    counts: &Counts,
-    seed: BlockId,
-) -> Result<Vec<BlockId>, NoMemory>
-    requires { IsSeed mixed.now counts.now (Some seed) }
-    ensures { IfOk result (λ blocks. Picked mixed.now counts.now blocks.items) }
-{
-    if may_grow(mixed, seed) {
-        grown_from(alloc, mixed, counts, seed)
-    } else {
-        alone(alloc, seed)
-    }
-}
-
-/// Whether an edge goes from the seed to an unused block or from one to the seed.
-fn may_grow(mixed: &Mixed, seed: BlockId) -> bool
-    ensures { result ≡ false → StandsAlone mixed.now seed }
-{
-    any_leads_on(mixed, seed, mixed.edges())
-}
-
-fn any_leads_on(mixed: &Mixed, seed: BlockId, edges: &[Edge]) -> bool
-    ensures { result ≡ list_any (leads_on mixed.now seed) edges.now }
-{
-    for edge in edges {
-        if leads_on(mixed, seed, *edge) {
-            return true;
-        }
-    }
-    false
 }
 
 /// The seed with the blocks behind it and those before it.
@@ -80,11 +43,8 @@ fn grown_from(
     requires { IsSeed mixed.now counts.now (Some seed) }
     ensures { IfOk result (λ blocks. Picked mixed.now counts.now blocks.items) }
 {
-    let heaviest = heaviest_edges(alloc, mixed, counts)?;
-    let grown = forward(alloc, mixed, &heaviest, seed)?;
-    let blocks = backward(mixed, &heaviest, seed, grown);
-    drop(heaviest);
-    blocks
+    let grown = forward(alloc, mixed, counts, seed)?;
+    backward(mixed, counts, seed, grown)
 }
 
 /// How often the seed of a picked trace was passed, which is at least as often as each other block of it.

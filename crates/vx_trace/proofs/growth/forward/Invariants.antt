@@ -5,7 +5,7 @@ use Rattle.vx_trace.proofs.Grows.{Ahead}
 use Rattle.vx_trace.proofs.growth.forward.Given as goal
 
 abbrev pub invariant-growing : goal.invariant-growing
-invariant-growing l = Ahead l.mixed (Linked l.mixed l.heaviest.out.items l.heaviest.into.items) l.seed l.blocks.items l.last l.ops
+invariant-growing l = Ahead l.mixed (Linked l.mixed l.counts) l.seed l.blocks.items l.last l.ops
 
 abbrev pub decreases-growing : goal.decreases-growing
 decreases-growing l = length l.mixed.nodes - length l.blocks.items

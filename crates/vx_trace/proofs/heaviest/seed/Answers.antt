@@ -1,7 +1,7 @@
 use Rattle.std.proofs.Common.{◌≡◌, ◌+◌, ◌<◌, length, subst, sym, arith}
 use Rattle.vx_trace.specs.Growing.{BestOf}
 use Rattle.vx_trace.specs.Picked.{IsUnused, count_of_block}
-use Rattle.vx_trace.proofs.Tables.{seed_more, seed_kept, seed_found, seed_missing}
+use Rattle.vx_trace.proofs.Bests.{seed_more, seed_kept, seed_found, seed_missing}
 use Rattle.vx_trace.proofs.heaviest.seed.Goals.{then-is_unused, else-is_unused}
 use Rattle.vx_trace.proofs.heaviest.seed.Goals as goal
 
