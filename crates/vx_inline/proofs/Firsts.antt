@@ -10,7 +10,7 @@ use Rattle.vx_inline.specs.Keeping.{KnowsApart}
 use Rattle.vx_inline.specs.Permitting.{StandsApart}
 use Rattle.vx_inline.proofs.Candidates.{apart_candidate}
 use Rattle.vx_inline.specs.declared.site.Site.{Site}
-use Rattle.vx_inline.specs.Choosing.{IsCandidate, count_of, Below, ComesBefore, Chosen, Seeds, is_below, site_of, BestBefore, exceeds, NoneIsWorthIt}
+use Rattle.vx_inline.specs.Choosing.{IsCandidate, count_of, Below, ComesBefore, Chosen, is_below, site_of, BestBefore, exceeds, NoneIsWorthIt}
 
 module _ (flow : Flow) (counts : Counts) (most : ℕ) where
   site_same : (f b : ℕ) (site : Site) → site.function ≡ f → site.block ≡ b → site ≡ site_of f b
@@ -57,13 +57,13 @@ module _ (flow : Flow) (counts : Counts) (most : ℕ) where
   below_both site best other (inr l) (inl m) = let e : site.function ≡ best.function = l.0 in inl (omega (arith, e, m))
   below_both site best other (inr l) (inr m) = let x : site.block < best.block = l.1 in let y : best.block < other.block = m.1 in inr (l.0 ∙ m.0, omega (arith, x, y))
 
-  before_both : (site best other : Site) → ComesBefore counts site best → ComesBefore counts best other → ComesBefore counts site other
+  pub before_both : (site best other : Site) → ComesBefore counts site best → ComesBefore counts best other → ComesBefore counts site other
   before_both site best other (inl l) (inl m) = inl (omega (arith, l, m))
   before_both site best other (inl l) (inr m) = let e : count_of counts other ≡ count_of counts best = m.0 in inl (omega (arith, l, e))
   before_both site best other (inr l) (inl m) = let e : count_of counts best ≡ count_of counts site = l.0 in inl (omega (arith, e, m))
   before_both site best other (inr l) (inr m) = inr (m.0 ∙ l.0, below_both site best other l.1 m.1)
 
-  comes : (best site : Site) → exceeds counts (Some best) site ≡ true → ComesBefore counts site best
+  pub comes : (best site : Site) → exceeds counts (Some best) site ≡ true → ComesBefore counts site best
   comes best site e = by (nat_lt (count_of counts best) (count_of counts site)) refl (count_of counts best == count_of counts site) refl e
     where
       by : (t : Bool) → nat_lt (count_of counts best) (count_of counts site) ≡ t → (u : Bool) → (count_of counts best == count_of counts site) ≡ u → (t || (u && is_below site best)) ≡ true → ComesBefore counts site best
@@ -71,7 +71,7 @@ module _ (flow : Flow) (counts : Counts) (most : ℕ) where
       by false p true q h = inr (eqb-true (count_of counts best) (count_of counts site) q, is_below_so site best h)
       by false p false q h = absurd (false≢true h)
 
-  stays_first : (best site : Site) → exceeds counts (Some best) site ≡ false → (site ≡ best) ⊎ ComesBefore counts best site
+  pub stays_first : (best site : Site) → exceeds counts (Some best) site ≡ false → (site ≡ best) ⊎ ComesBefore counts best site
   stays_first best site e = by (nat_lt (count_of counts best) (count_of counts site)) refl (count_of counts best == count_of counts site) refl e
     where
       as_below : count_of counts site ≡ count_of counts best → (site ≡ best) ⊎ Below best site → (site ≡ best) ⊎ ComesBefore counts best site
@@ -163,9 +163,8 @@ module _ (flow : Flow) (counts : Counts) (most : ℕ) where
   none_below site (inl l) = omega (arith, l)
   none_below site (inr r) = let l : site.block < 0 = r.1 in omega (arith, l)
 
-  pub best_first : (seed : Option Site) → Seeds flow most seed → BestBefore flow counts most 0 0 seed
-  best_first None u = λ site l k. none_below site l
-  best_first (Some seed) k = record { candidate = k; first = λ other l c. absurd (none_below other l) }
+  pub none_before : BestBefore flow counts most 0 0 None
+  none_before site l k = none_below site l
 
   pub chosen_last : (n : ℕ) (best : Option Site) → n ≡ length flow.functions → BestBefore flow counts most n 0 best → Chosen flow counts most best
   chosen_last n best q h = by best h

@@ -1,5 +1,5 @@
 -- Functions that are entered alike: their graphs have the same parameters and arrays.
-use Rattle.std.proofs.Common.{◌≡◌, inl, ℕ, ℤ, List, ◌++◌, length, map, drop, Option, Some, None, refl}
+use Rattle.std.proofs.Common.{◌≡◌, inl, ℕ, ℤ, List, ◌++◌, map, drop, Option, Some, None, refl}
 use Rattle.vx_flow.specs.declared.graph.Exit.{Exit}
 use Rattle.vx_flow.specs.declared.graph.Exit.TheVariants.{Goto, Split, Call, Return, Ends}
 use Rattle.vx_flow.specs.declared.graph.Block.{Block}

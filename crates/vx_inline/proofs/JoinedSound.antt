@@ -19,7 +19,7 @@ use Rattle.vx_flow.specs.declared.graph.Flow.{Flow}
 use Rattle.vx_flow.specs.declared.graph.Edge.{Edge}
 use Rattle.vx_flow.specs.Effects.{IsIn, value_in, reads, writes}
 use Rattle.vx_flow.specs.Operands.{with_value_in, with_values}
-use Rattle.vx_flow.specs.Sound.{HasOperation, HasExit, SoundFlow, Sound, Leads, Has, Callable, IsOperandOf, IsPlace, in_own, in_handed, IsAccess, MakesPlace, ReadAsPlace, IsBase, given, made, IsMadeFrom, IsBaseOperand, base, has_base, is_own, is_local, base_of, base_at, targets_of, operands_of, tests_of, arrays_of, bank_written, operands_of_exit, results_of_exit, tests_of_exit}
+use Rattle.vx_flow.specs.Sound.{HasOperation, HasExit, SoundFlow, Sound, Leads, Has, Callable, IsOperandOf, IsPlace, in_own, in_handed, IsAccess, MakesPlace, ReadAsPlace, IsBase, given, made, IsMadeFrom, base, has_base, is_own, is_local, base_of, base_at, targets_of, operands_of, tests_of, arrays_of, bank_written, operands_of_exit, results_of_exit, tests_of_exit}
 use Rattle.vx_flow.proofs.Members.{in_left, in_right, in_either}
 use Rattle.vx_flow.proofs.SoundBases.{array_of_base}
 use Rattle.vx_inline.specs.declared.site.Site.{Site}

@@ -32,4 +32,6 @@ pub mod Linking
 pub mod KnownStays
 pub mod PassingSteps
 pub mod Stepping
-pub mod InlinedBlocks
+pub mod Joints
+pub mod Calling
+pub mod Likely

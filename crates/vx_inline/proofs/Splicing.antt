@@ -1,12 +1,12 @@
 -- Blocks that are spliced, one at a time.
-use Rattle.std.proofs.Common.{◌≡◌, ℕ, zero, suc, ◌+◌, ◌<◌, ◌==◌, Bool, true, false, cond, List, [], ◌∷◌, ◌++◌, length, map, drop, slice_get, get_or, drop-cons, append_assoc, Option, refl, sym, ap, ◌∙◌, arith, append-nil}
+use Rattle.std.proofs.Common.{◌≡◌, ℕ, zero, suc, ◌+◌, ◌<◌, Bool, true, false, cond, List, [], ◌∷◌, ◌++◌, length, map, drop, slice_get, get_or, drop-cons, append_assoc, Option, refl, sym, ap, ◌∙◌, arith, append-nil}
 use Rattle.std.specs.List.{filter}
 use Rattle.vx_flow.specs.declared.graph.Operand.{Operand}
 use Rattle.vx_flow.specs.declared.graph.Op.{Op}
 use Rattle.vx_flow.specs.declared.graph.Exit.{Exit}
 use Rattle.vx_flow.specs.declared.graph.Exit.TheVariants.{Goto, Split, Call, Return, Ends}
 use Rattle.vx_flow.specs.declared.graph.Block.{Block}
-use Rattle.vx_inline.specs.Inlined.{copied_as, is_plain, moves_in, stayed, stayed_all}
+use Rattle.vx_inline.specs.Inlined.{copied_as, is_plain, moves_in}
 use Rattle.vx_inline.specs.Splicing.{move_at, back_moves, back_exit}
 
 pub copied_in_parts : (copy to : ℕ → ℕ) (taker : Option ℕ) (back : ℕ) (ops : List Op) (exit : Exit) → record { ops = ops ++ back_moves to taker exit; exit = back_exit copy to back exit } ≡ copied_as copy to taker back ops exit
@@ -39,18 +39,6 @@ pub at_next : {X Y : Type 0} (F : List X → Y) (xs : List X) (i : ℕ) (d : X) 
 at_next F xs i d l e =
     let a : suc i ≡ i + 1 = omega arith in
     ap F (drop-cons xs i d l) ∙ ap (λ x. F (x ∷ drop (suc i) xs)) (sym e) ∙ ap (λ k. F (d ∷ drop k xs)) a
-
--- blocks of the caller
-pub stayed_next : (at : ℕ → ℕ) (enter : Block) (site : ℕ) (blocks : List Block) (i : ℕ) (d made : Block) (now new target : List Block) → i < length blocks → d ≡ get_or blocks i d → now ++ filter is_plain (stayed_all at enter site i (drop i blocks)) ≡ target →
-    made ≡ cond (i == site) enter (stayed at d) → new ≡ now ++ filter is_plain (made ∷ []) → new ++ filter is_plain (stayed_all at enter site (i + 1) (drop (i + 1) blocks)) ≡ target
-stayed_next at enter site blocks i d made now new target l e h m n =
-    let a : suc i ≡ i + 1 = omega arith in
-    ap (λ x. x ++ filter is_plain (stayed_all at enter site (i + 1) (drop (i + 1) blocks))) n ∙
-    append_assoc now (filter is_plain (made ∷ [])) (filter is_plain (stayed_all at enter site (i + 1) (drop (i + 1) blocks))) ∙
-    ap (λ x. now ++ x) (sym (filter_cons is_plain made (stayed_all at enter site (i + 1) (drop (i + 1) blocks)))) ∙
-    ap (λ x. now ++ filter is_plain (x ∷ stayed_all at enter site (i + 1) (drop (i + 1) blocks))) m ∙
-    ap (λ k. now ++ filter is_plain (cond (i == site) enter (stayed at d) ∷ stayed_all at enter site k (drop (i + 1) blocks))) (sym a) ∙
-    ap (λ x. now ++ x) (sym (at_next (λ xs. filter is_plain (stayed_all at enter site i xs)) blocks i d l e)) ∙ h
 
 -- blocks of the callee
 pub copied_next : (f : Block → Block) (blocks : List Block) (i : ℕ) (d made : Block) (now new target : List Block) → i < length blocks → d ≡ get_or blocks i d → now ++ filter is_plain (map f (drop i blocks)) ≡ target →

@@ -1,14 +1,13 @@
 -- A flow with a call inlined keeps what it is, and its banks.
-use Rattle.std.proofs.Common.{◌≡◌, ◌+◌, ◌<◌, ℕ, true, Some, None, refl, ap, ◌∙◌, arith}
+use Rattle.std.proofs.Common.{◌≡◌, ◌+◌, ◌<◌, ℕ, true, Some, None, refl, ◌∙◌, arith}
 use Rattle.vx_ast.specs.Accepted.{is_accepted}
 use Rattle.vx_ast.specs.Tree.{Program}
 use Rattle.vx_flow.specs.declared.graph.Flow.{Flow}
-use Rattle.vx_flow.specs.declared.graph.Graph.{Graph}
 use Rattle.vx_flow.specs.Sound.{SoundFlow}
 use Rattle.vx_lower.specs.FlowOf.{FlowOf}
 use Rattle.vx_inline.specs.declared.site.Site.{Site}
 use Rattle.vx_inline.specs.Inlined.{Permitted, Inlined}
-use Rattle.vx_inline.specs.Inlining.{IsInlinedGraph, with_graph, banks_of}
+use Rattle.vx_inline.specs.Inlining.{banks_of}
 use Rattle.vx_profile.specs.declared.counts.Counts.{Counts}
 use Rattle.vx_inline.specs.Choosing.{Chosen, IsChosen}
 use Rattle.vx_inline.specs.Repeating.{InlinesAll}
@@ -43,15 +42,6 @@ kept_next counts most flow now new site k c i sound = record {
 
 pub kept_last : (counts : Counts) (most : ℕ) (flow now : Flow) → Kept counts most flow now → Chosen now counts most None → InlinesAll counts most flow now
 kept_last counts most flow now k c = k.along now (none_left c)
-
--- the graph that is made gives the flow with the call inlined
-pub is_inlined : (flow new : Flow) (site : Site) (graph : Graph) → Permitted flow site → IsInlinedGraph flow site graph → new ≡ with_graph flow site.function graph → Inlined flow site new
-is_inlined flow new site graph p h e = record {
-  call = p.call;
-  free = p.free;
-  permitted = p.permitted;
-  is = e ∙ ap (with_graph flow site.function) (h p.call p.free p.permitted);
-}
 
 -- each step removes a call
 pub less_calls : (now new : Flow) (site : Site) → Inlined now site new → calls_of new.functions < calls_of now.functions

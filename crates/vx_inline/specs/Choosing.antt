@@ -3,6 +3,7 @@ use Rattle.std.specs.Prelude.{◌≡◌, ◌<◌, ◌≤◌, ◌⊎◌, ◌+◌,
 use Rattle.vx_flow.specs.declared.graph.Bank.{Bank}
 use Rattle.vx_flow.specs.declared.graph.Block.{Block}
 use Rattle.vx_flow.specs.declared.graph.Flow.{Flow}
+use Rattle.vx_flow.specs.Effects.{IsIn}
 use Rattle.vx_profile.specs.declared.counts.Counts.{Counts}
 use Rattle.vx_profile.specs.Counts.{block_count}
 use Rattle.vx_inline.specs.declared.site.Site.{Site}
@@ -56,11 +57,6 @@ abbrev pub BestBefore : Flow → Counts → (most f b : ℕ) → Option Site →
 BestBefore flow counts most f b None = (site : Site) → Below site (site_of f b) → IsCandidate flow most site → ⊥
 BestBefore flow counts most f b (Some site) = IsFirst flow counts most f b site
 
--- what it begins with is a candidate
-abbrev pub Seeds : Flow → (most : ℕ) → Option Site → Type 0
-Seeds flow most None = Unit {0}
-Seeds flow most (Some site) = IsCandidate flow most site
-
 abbrev pub is_below : (site other : Site) → Bool
 is_below site other = nat_lt site.function other.function || ((site.function == other.function) && nat_lt site.block other.block)
 
@@ -83,3 +79,24 @@ pub record MayBeBetter (flow : Flow) (counts : Counts) (most : ℕ) (best : Opti
 abbrev pub IsWorthIt : Flow → Counts → (most : ℕ) → Option Site → Site → Option TheCall → Type 0
 IsWorthIt flow counts most best site None = NoneIsWorthIt flow counts most best site
 IsWorthIt flow counts most best site (Some c) = MayBeBetter flow counts most best site c
+
+-- ---- by what is tested of all but free values
+
+-- no candidate comes before the best
+abbrev pub NoneFirst : Flow → Counts → (most : ℕ) → (best : Option Site) → Type 0
+NoneFirst flow counts most best = (site : Site) → NoneIsWorthIt flow counts most best site
+
+-- the best of another and a site: what did not come before the other does not come before it
+pub record BestOfTwo (flow : Flow) (counts : Counts) (most : ℕ) (site : Site) (other best : Option Site) : Type 0 where
+  pub own : NoneIsWorthIt flow counts most best site
+  pub rest : (s : Site) → NoneIsWorthIt flow counts most other s → NoneIsWorthIt flow counts most best s
+
+-- the best of another and these blocks of function f
+pub record BestOfBlocks (flow : Flow) (counts : Counts) (most f : ℕ) (blocks : List ℕ) (other best : Option Site) : Type 0 where
+  pub own : (b : ℕ) → IsIn b blocks → NoneIsWorthIt flow counts most best (site_of f b)
+  pub rest : (s : Site) → NoneIsWorthIt flow counts most other s → NoneIsWorthIt flow counts most best s
+
+-- the best of another and all of function f
+pub record BestOfFunction (flow : Flow) (counts : Counts) (most f : ℕ) (other best : Option Site) : Type 0 where
+  pub own : (s : Site) → s.function ≡ f → NoneIsWorthIt flow counts most best s
+  pub rest : (s : Site) → NoneIsWorthIt flow counts most other s → NoneIsWorthIt flow counts most best s

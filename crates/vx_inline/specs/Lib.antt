@@ -7,13 +7,14 @@ pub mod Counts
 pub mod Reaching
 pub mod Finding
 pub mod Fitting
+pub mod CallPlaces
 pub mod Values
 pub mod Permitting
 pub mod Keeping
 pub mod Choosing
 pub mod Taking
 pub mod Placing
-pub mod Splicing
 pub mod Linking
 pub mod Inlining
+pub mod Splicing
 pub mod Repeating

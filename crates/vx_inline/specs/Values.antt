@@ -1,5 +1,5 @@
 -- Which values of the caller are free where a call is, as lists that are found.
-use Rattle.std.specs.Prelude.{◌&&◌, ℕ, Bool, true, not, if◌then◌else◌, List, [], ◌∷◌, ◌++◌, length, nat_le, slice_get, slice_set}
+use Rattle.std.specs.Prelude.{◌&&◌, ℕ, Bool, true, not, if◌then◌else◌, List, [], ◌∷◌, ◌++◌, length, nat_le, slice_get, slice_set, take}
 use Rattle.std.specs.List.{flat_map, filter}
 use Rattle.vx_flow.specs.declared.graph.Array.{Array}
 use Rattle.vx_flow.specs.declared.graph.Bank.{Bank}
@@ -57,6 +57,10 @@ kept rows c = row_at rows c.next ++ flat_map value_in c.arguments ++ value_list 
 -- the free ones of a bank, ascending
 abbrev pub free_of : (rows : List (List ℕ)) → TheCall → Bank → List ℕ
 free_of rows c bank = filter (λ v. is_bank bank (slice_get c.caller.banks v) && not (is_among (kept rows c) v)) (numbers 0 (length c.caller.banks))
+
+-- the first free ones of a bank, at most as many as others
+abbrev pub first_free : (rows : List (List ℕ)) → TheCall → (others : ByBank) → Bank → List ℕ
+first_free rows c others bank = take (length (of_bank others bank)) (free_of rows c bank)
 
 -- of a bank there are as many free ones as the callee names
 abbrev pub is_enough : (rows : List (List ℕ)) → TheCall → Bank → Bool

@@ -1,6 +1,6 @@
 // Values of a graph by their bank.
 
-ghost use Rattle.std.specs.Prelude.{◌≡◌, IfOk, Some, length, slice_get};
+ghost use Rattle.std.specs.Prelude.{◌≡◌, ◌++◌, ◌∷◌, [], if◌then◌else◌, true, false, IfOk, Some, length, slice_get, take};
 ghost use Rattle.std.specs.List.{filter};
 ghost use Rattle.vx_flow.specs.declared.graph.Bank.{Bank};
 ghost use Rattle.vx_flow.specs.Sound.{is_bank};
@@ -42,21 +42,16 @@ pub(crate) fn named(alloc: Global, graph: &Graph) -> Result<ByBank, NoMemory>
 {
     let names = names(alloc, graph)?;
     let marks = marks_of(alloc, graph.banks.len(), names.as_slice())?;
-    by_bank(alloc, graph.banks.as_slice(), marks.as_slice(), true)
+    marked_by_bank(alloc, graph.banks.as_slice(), marks.as_slice())
 }
 
-/// The values that are marked, or those that are not.
+/// The values that are marked.
 #[tactic(auto, using(crate::proofs::Named::both_listed))]
-pub(crate) fn by_bank(
-    alloc: Global,
-    banks: &[Bank],
-    marks: &[bool],
-    marked: bool,
-) -> Result<ByBank, NoMemory>
-    ensures { IfOk result (λ values. (bank : Bank) → of_bank values bank ≡ filter (is_listed banks.now marks.now marked bank) (numbers 0 (length banks.now))) }
+fn marked_by_bank(alloc: Global, banks: &[Bank], marks: &[bool]) -> Result<ByBank, NoMemory>
+    ensures { IfOk result (λ values. (bank : Bank) → of_bank values bank ≡ filter (is_listed banks.now marks.now true bank) (numbers 0 (length banks.now))) }
 {
-    let general = listed(alloc, banks, marks, marked, Bank::General)?;
-    let branch = listed(alloc, banks, marks, marked, Bank::Branch)?;
+    let general = listed(alloc, banks, marks, Bank::General)?;
+    let branch = listed(alloc, banks, marks, Bank::Branch)?;
     Ok(ByBank { general, branch })
 }
 
@@ -65,19 +60,68 @@ fn listed(
     alloc: Global,
     banks: &[Bank],
     marks: &[bool],
-    marked: bool,
     bank: Bank,
 ) -> Result<Listed<Value>, NoMemory>
-    ensures { IfOk result (λ values. values ≡ filter (is_listed banks.now marks.now marked bank) (numbers 0 (length banks.now))) }
+    ensures { IfOk result (λ values. values ≡ filter (is_listed banks.now marks.now true bank) (numbers 0 (length banks.now))) }
 {
     let count = number_of(banks.len())?;
     let mut values = Listed::new(alloc);
     for value in 0..count {
-        if is_listed(banks, marks, marked, bank, value) {
+        if is_listed(banks, marks, true, bank, value) {
             values.push(value)?;
         }
     }
     Ok(values)
+}
+
+/// Of each bank the first values that are not marked, at most as many as there are others.
+#[tactic(auto, using(crate::proofs::Named::both_first))]
+pub(crate) fn first_unmarked(
+    alloc: Global,
+    banks: &[Bank],
+    marks: &[bool],
+    others: &ByBank,
+) -> Result<ByBank, NoMemory>
+    ensures { IfOk result (λ values. (bank : Bank) → of_bank values bank ≡ take (length (of_bank others.now bank)) (filter (is_listed banks.now marks.now false bank) (numbers 0 (length banks.now)))) }
+{
+    let general = first_of(alloc, banks, marks, Bank::General, others.general.len())?;
+    let branch = first_of(alloc, banks, marks, Bank::Branch, others.branch.len())?;
+    Ok(ByBank { general, branch })
+}
+
+fn first_of(
+    alloc: Global,
+    banks: &[Bank],
+    marks: &[bool],
+    bank: Bank,
+    most: usize,
+) -> Result<Listed<Value>, NoMemory>
+    ensures { IfOk result (λ values. values ≡ take most (filter (is_listed banks.now marks.now false bank) (numbers 0 (length banks.now)))) }
+{
+    let count = number_of(banks.len())?;
+    let mut values = Listed::new(alloc);
+    for value in 0..count {
+        if values.len() >= most {
+            return Ok(values);
+        }
+        push_unmarked(&mut values, banks, marks, bank, value)?;
+    }
+    Ok(values)
+}
+
+fn push_unmarked(
+    values: &mut Listed<Value>,
+    banks: &[Bank],
+    marks: &[bool],
+    bank: Bank,
+    value: Value,
+) -> Result<(), NoMemory>
+    ensures { IfOk result (λ _. values.new ≡ values.old ++ (if is_listed banks.now marks.now false bank value then value ∷ [] else [])) }
+{
+    if is_listed(banks, marks, false, bank, value) {
+        values.push(value)?;
+    }
+    Ok(())
 }
 
 fn is_listed(banks: &[Bank], marks: &[bool], marked: bool, bank: Bank, value: Value) -> bool

@@ -1,14 +1,16 @@
 // The site whose call is inlined next.
 
-ghost use Rattle.std.specs.Prelude.{◌≡◌, ◌+◌, ◌<◌, ◌↔◌, ℕ, false, IfOk, IsTrue, Some, is_some, length, slice_get};
+ghost use Rattle.std.specs.Prelude.{◌≡◌, ◌+◌, ◌<◌, ◌↔◌, ℕ, true, false, IfOk, IsTrue, Some, is_some, length, slice_get};
 ghost use Rattle.std.specs.Option.{option_map};
 ghost use Rattle.vx_flow.specs.Rows.{is_marked};
 ghost use Rattle.vx_flow.specs.Sound.{SoundFlow};
-ghost use Rattle.vx_inline.specs.Choosing.{BestBefore, Chosen, IsWorthIt, NoneIsWorthIt, Seeds, exceeds, is_below, site_of};
+ghost use Rattle.vx_inline.specs.Choosing.{BestBefore, BestOfBlocks, BestOfFunction, BestOfTwo, Chosen, IsCandidate, IsWorthIt, NoneFirst, NoneIsWorthIt, exceeds, is_below, site_of};
+ghost use Rattle.vx_inline.specs.CallPlaces.{ListsCalls};
 ghost use Rattle.vx_inline.specs.Finding.{call_in, seen};
 ghost use Rattle.vx_inline.specs.Keeping.{Knows};
 ghost use Rattle.vx_inline.specs.Permitting.{HasEnough, StandsApart};
 
+use crate::call_lists::calls_of;
 use crate::fitting::{fits, has_few};
 use crate::found_call::{FoundCall, find};
 use crate::free_values::has_values;
@@ -16,17 +18,20 @@ use crate::known::{Known, known_of};
 use crate::marks::is_marked;
 use crate::site::Site;
 use std::alloc::Global;
+use vx_base::listed::Listed;
 use vx_base::outcome::NoMemory;
 use vx_base::sizes::number_of;
-use vx_flow::graph::{Flow, Graph};
+use vx_flow::graph::{BlockId, Flow, Graph};
 use vx_flow::live_rows::Live;
 use vx_profile::counts::Counts;
 
-/// What is chosen by: the flow, what is known of it, the counts of its blocks, and the most operations of a callee.
+/// What is chosen by: the flow, what is known of it, the blocks of each function that call, the counts of its blocks, and the most
+/// operations of a callee.
 #[derive(Clone, Copy)]
 pub struct Asked<'a> {
     pub flow: &'a Flow,
     pub known: &'a Known,
+    pub calls: &'a Vec<Listed<BlockId>>,
     pub counts: &'a Counts,
     pub most: u32,
 }
@@ -43,58 +48,76 @@ pub fn choose(
     ensures chosen { IfOk result (λ site. Chosen flow.now counts.now most site) }
 {
     let known = known_of(alloc, flow)?;
+    let calls = calls_of(alloc, flow)?;
     let asked = Asked {
         flow,
         known: &known,
+        calls: &calls,
         counts,
         most,
     };
     chosen(alloc, &asked)
 }
 
-/// The site that is chosen by what is known. All are compared with a likely one, so that free values are seldom looked for at
-/// another than the one that is chosen.
-#[tactic(auto, using(crate::proofs::Firsts::best_first, crate::proofs::Firsts::chosen_last))]
+/// The site that is chosen by what is known. By what costs little one comes first; if it is permitted, it is the one, so that free
+/// values are seldom looked for at another.
+#[tactic(auto, using(crate::proofs::Likely::none_chosen))]
 pub(crate) fn chosen(alloc: Global, asked: &Asked) -> Result<Option<Site>, NoMemory>
     requires known { Knows asked.now.flow.now asked.now.known.now }
+    requires calls { ListsCalls asked.now.flow.now asked.now.calls.now.items }
     ensures chosen { IfOk result (λ site. Chosen asked.now.flow.now asked.now.counts.now asked.now.most site) }
 {
     let functions = number_of(asked.flow.functions.len())?;
-    let mut best = seed(alloc, asked, functions)?;
+    match likely(asked, functions) {
+        Some(site) => likely_or_best(alloc, asked, functions, site),
+        None => Ok(None),
+    }
+}
+
+/// A site that comes first by what costs little, if it is permitted; else the one that is found among all.
+fn likely_or_best(
+    alloc: Global,
+    asked: &Asked,
+    functions: u32,
+    site: Site,
+) -> Result<Option<Site>, NoMemory>
+    requires known { Knows asked.now.flow.now asked.now.known.now }
+    requires functions { functions ≡ length asked.now.flow.now.functions }
+    requires first { NoneFirst asked.now.flow.now asked.now.counts.now asked.now.most (Some site) }
+    ensures { IfOk result (λ chosen. Chosen asked.now.flow.now asked.now.counts.now asked.now.most chosen) }
+{
+    if is_candidate(alloc, asked, &site)? {
+        Ok(Some(site))
+    } else {
+        best_of_all(alloc, asked, functions)
+    }
+}
+
+/// The site that is found among all.
+#[tactic(auto, using(crate::proofs::Firsts::none_before, crate::proofs::Firsts::chosen_last))]
+fn best_of_all(alloc: Global, asked: &Asked, functions: u32) -> Result<Option<Site>, NoMemory>
+    requires known { Knows asked.now.flow.now asked.now.known.now }
+    requires functions { functions ≡ length asked.now.flow.now.functions }
+    ensures { IfOk result (λ chosen. Chosen asked.now.flow.now asked.now.counts.now asked.now.most chosen) }
+{
+    let mut best = None;
     for function in 0..functions {
         best = best_with(alloc, asked, function, best)?;
     }
     Ok(best)
 }
 
-/// The site that comes first by what costs little, if it is permitted.
-fn seed(alloc: Global, asked: &Asked, functions: u32) -> Result<Option<Site>, NoMemory>
+/// Whether a site is permitted and its callee has few operations, as far as it is known that its caller stands apart.
+fn is_candidate(alloc: Global, asked: &Asked, site: &Site) -> Result<bool, NoMemory>
     requires known { Knows asked.now.flow.now asked.now.known.now }
-    ensures { IfOk result (λ site. Seeds asked.now.flow.now asked.now.most site) }
-{
-    match likely(asked, functions) {
-        Some(site) => tested(alloc, asked, site),
-        None => Ok(None),
-    }
-}
-
-/// The site, if it is permitted and its callee has few operations.
-fn tested(alloc: Global, asked: &Asked, site: Site) -> Result<Option<Site>, NoMemory>
-    requires known { Knows asked.now.flow.now asked.now.known.now }
-    ensures { IfOk result (λ site. Seeds asked.now.flow.now asked.now.most site) }
+    ensures { IfOk result (λ is. is ≡ true → IsCandidate asked.now.flow.now asked.now.most site.now) }
 {
     if !is_apart(asked, site.function) {
-        return Ok(None);
+        return Ok(false);
     }
-    match worth_it(asked, &site, None) {
-        Some(found) => {
-            if has_room(alloc, asked, &site, &found)? {
-                Ok(Some(site))
-            } else {
-                Ok(None)
-            }
-        }
-        None => Ok(None),
+    match worth_it(asked, site, None) {
+        Some(found) => has_room(alloc, asked, site, &found),
+        None => Ok(false),
     }
 }
 
@@ -133,7 +156,12 @@ fn has_room_by(
 }
 
 /// The site that comes first by what costs little.
-fn likely(asked: &Asked, functions: u32) -> Option<Site> {
+fn likely(asked: &Asked, functions: u32) -> Option<Site>
+    requires known { Knows asked.now.flow.now asked.now.known.now }
+    requires calls { ListsCalls asked.now.flow.now asked.now.calls.now.items }
+    requires functions { functions ≡ length asked.now.flow.now.functions }
+    ensures { NoneFirst asked.now.flow.now asked.now.counts.now asked.now.most result }
+{
     let mut best = None;
     for function in 0..functions {
         best = likely_with(asked, function, best);
@@ -141,28 +169,67 @@ fn likely(asked: &Asked, functions: u32) -> Option<Site> {
     best
 }
 
-fn likely_with(asked: &Asked, function: u32, best: Option<Site>) -> Option<Site> {
-    match asked.flow.functions.as_slice().get(function as usize) {
-        Some(caller) => {
-            if is_apart(asked, function) {
-                likely_of(asked, function, caller.blocks.len() as u32, best)
-            } else {
-                best
-            }
-        }
+/// The better of a site and those of a function, by what costs little.
+fn likely_with(asked: &Asked, function: u32, best: Option<Site>) -> Option<Site>
+    requires known { Knows asked.now.flow.now asked.now.known.now }
+    requires calls { ListsCalls asked.now.flow.now asked.now.calls.now.items }
+    ensures { BestOfFunction asked.now.flow.now asked.now.counts.now asked.now.most function best result }
+{
+    if is_apart(asked, function) {
+        likely_in(asked, function, best)
+    } else {
+        best
+    }
+}
+
+fn likely_in(asked: &Asked, function: u32, best: Option<Site>) -> Option<Site>
+    requires calls { ListsCalls asked.now.flow.now asked.now.calls.now.items }
+    ensures { BestOfFunction asked.now.flow.now asked.now.counts.now asked.now.most function best result }
+{
+    match asked.calls.as_slice().get(function as usize) {
+        Some(calls) => likely_listed(asked, function, calls, best),
         None => best,
     }
 }
 
-fn likely_of(asked: &Asked, function: u32, blocks: u32, best: Option<Site>) -> Option<Site> {
-    let mut best = best;
-    for block in 0..blocks {
-        let site = Site { function, block };
-        if worth_it(asked, &site, best).is_some() {
-            best = Some(site);
-        }
+fn likely_listed(
+    asked: &Asked,
+    function: u32,
+    calls: &Listed<BlockId>,
+    best: Option<Site>,
+) -> Option<Site>
+    requires calls { ListsCalls asked.now.flow.now asked.now.calls.now.items }
+    requires row { slice_get asked.now.calls.now.items function ≡ Some calls.now }
+    ensures { BestOfFunction asked.now.flow.now asked.now.counts.now asked.now.most function best result }
+{
+    likely_of(asked, function, calls.as_slice(), best)
+}
+
+fn likely_of(asked: &Asked, function: u32, calls: &[BlockId], best: Option<Site>) -> Option<Site>
+    ensures { BestOfBlocks asked.now.flow.now asked.now.counts.now asked.now.most function calls.now best result }
+{
+    let mut likely = best;
+    for block in calls {
+        likely = likely_at(
+            asked,
+            Site {
+                function,
+                block: *block,
+            },
+            likely,
+        );
     }
-    best
+    likely
+}
+
+#[tactic(auto, using(crate::proofs::Likely::first_stays, crate::proofs::Likely::first_taken))]
+fn likely_at(asked: &Asked, site: Site, best: Option<Site>) -> Option<Site>
+    ensures { BestOfTwo asked.now.flow.now asked.now.counts.now asked.now.most site best result }
+{
+    match worth_it(asked, &site, best) {
+        Some(_) => Some(site),
+        None => best,
+    }
 }
 
 /// The better of a site and those of one more function.

@@ -32,7 +32,7 @@ pub(crate) fn calls_nothing(blocks: &[Block]) -> bool
     true
 }
 
-fn is_calling(block: &Block) -> bool
+pub(crate) fn is_calling(block: &Block) -> bool
     ensures { result ≡ is_calling block.now }
 {
     match &block.exit {

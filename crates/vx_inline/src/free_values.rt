@@ -4,9 +4,9 @@ ghost use Rattle.std.specs.Prelude.{◌≡◌, ◌++◌, IfOk};
 ghost use Rattle.std.specs.List.{flat_map};
 ghost use Rattle.vx_flow.specs.declared.graph.Bank.{Bank};
 ghost use Rattle.vx_inline.specs.Finding.{seen};
-ghost use Rattle.vx_inline.specs.Values.{free_of, given_bases, has_values, kept, local_place, local_places, of_bank};
+ghost use Rattle.vx_inline.specs.Values.{first_free, given_bases, has_values, kept, local_place, local_places, of_bank};
 
-use crate::by_bank::{ByBank, by_bank, named};
+use crate::by_bank::{ByBank, first_unmarked, named};
 use crate::found_call::FoundCall;
 use crate::marks::marks_of;
 use crate::names::push_operands;
@@ -18,18 +18,23 @@ use vx_flow::graph::{Array, Block, Op, Value};
 use vx_flow::live_rows::Live;
 use vx_flow::operands::push_value;
 
-/// The free values by their bank, by what is live at the blocks of the caller.
+/// The first free values by their bank, at most as many as there are others, by what is live at the blocks of the caller.
 #[tactic(auto, using(crate::proofs::Named::free_by))]
-pub(crate) fn free_values(alloc: Global, live: &Live, found: &FoundCall) -> Result<ByBank, NoMemory>
-    ensures { IfOk result (λ values. (bank : Bank) → of_bank values bank ≡ free_of live.now (seen found.now) bank) }
+pub(crate) fn free_values(
+    alloc: Global,
+    live: &Live,
+    found: &FoundCall,
+    others: &ByBank,
+) -> Result<ByBank, NoMemory>
+    ensures { IfOk result (λ values. (bank : Bank) → of_bank values bank ≡ first_free live.now (seen found.now) others.now bank) }
 {
     let kept = kept(alloc, live, found)?;
     let marks = marks_of(alloc, found.caller.banks.len(), kept.as_slice())?;
-    by_bank(
+    first_unmarked(
         alloc,
         found.caller.banks.as_slice(),
         marks.as_slice(),
-        false,
+        others,
     )
 }
 
@@ -38,8 +43,8 @@ pub(crate) fn free_values(alloc: Global, live: &Live, found: &FoundCall) -> Resu
 pub(crate) fn has_values(alloc: Global, live: &Live, found: &FoundCall) -> Result<bool, NoMemory>
     ensures { IfOk result (λ has. has ≡ has_values live.now (seen found.now)) }
 {
-    let free = free_values(alloc, live, found)?;
     let named = named(alloc, found.callee)?;
+    let free = free_values(alloc, live, found, &named)?;
     Ok(named.general.len() <= free.general.len() && named.branch.len() <= free.branch.len())
 }
 

@@ -1,6 +1,6 @@
 // A flow with the call of a permitted site inlined.
 
-ghost use Rattle.std.specs.Prelude.{◌≡◌, ◌↔◌, ℕ, true, IfOk, IsTrue, slice_set};
+ghost use Rattle.std.specs.Prelude.{◌≡◌, ◌↔◌, ℕ, true, List, IfOk, IsTrue};
 ghost use Rattle.vx_ast.specs.Accepted.{is_accepted};
 ghost use Rattle.vx_ast.specs.Tree.{Program};
 ghost use Rattle.vx_flow.specs.Live.{IsLive};
@@ -8,26 +8,24 @@ ghost use Rattle.vx_flow.specs.Rows.{lives};
 ghost use Rattle.vx_flow.specs.Sound.{SoundFlow};
 ghost use Rattle.vx_lower.specs.FlowOf.{FlowOf};
 ghost use Rattle.vx_inline.specs.Finding.{seen};
-ghost use Rattle.vx_inline.specs.Inlined.{Inlined, Permitted, inlined_blocks};
-ghost use Rattle.vx_inline.specs.Inlining.{IsInlinedBlocks, IsInlinedGraph, inlined_by, joined_by, with_graph};
+ghost use Rattle.vx_flow.specs.declared.graph.Bank.{Bank};
+ghost use Rattle.vx_inline.specs.Inlined.{AreFree, Inlined, Permitted, named, taken};
 ghost use Rattle.vx_inline.specs.Keeping.{KnowsSite};
-ghost use Rattle.vx_inline.specs.Taking.{value_at};
+ghost use Rattle.vx_inline.specs.Splicing.{AreWithJoint, IsJoint, IsJointAt, IsWithJoint, joined_graph};
 ghost use Rattle.vx_inline.specs.Values.{of_bank};
 
 use crate::by_bank::{ByBank, named};
-use crate::edge_blocks::{critical, linked};
+use crate::caller_blocks::with_joint;
 use crate::found_call::{FoundCall, find};
 use crate::free_values::free_values;
-use crate::places::{kinds, places_of, plain_count};
+use crate::joint::{Joint, joint_of};
 use crate::site::Site;
-use crate::splice::{Splice, spliced};
 use crate::takes::takes;
 use std::alloc::Global;
+use std::mem::replace;
 use vx_base::listed::Listed;
 use vx_base::outcome::NoMemory;
-use vx_base::sizes::sum;
-use vx_flow::copies::with_blocks;
-use vx_flow::graph::{Block, BlockId, Flow, Graph, Value};
+use vx_flow::graph::{Flow, Graph};
 use vx_flow::live;
 use vx_flow::live_rows::Live;
 
@@ -63,7 +61,7 @@ fn live_in(alloc: Global, flow: &Flow, site: &Site) -> Result<Live, NoMemory>
 }
 
 /// The flow with the call inlined, by what is live behind it.
-#[tactic(auto, using(crate::proofs::Stepping::is_inlined))]
+#[tactic(auto, using(crate::proofs::Joints::is_inlined))]
 pub(crate) fn with_live(
     alloc: Global,
     flow: Flow,
@@ -74,13 +72,48 @@ pub(crate) fn with_live(
     requires live { KnowsSite flow site live.now }
     ensures inlined { IfOk result (λ new. Inlined flow site new) }
 {
-    let graph = graph_of(alloc, &flow, &site, live)?;
-    with_graph(flow, site.function, graph)
+    let joint = joint_at(alloc, &flow, &site, live)?;
+    with_joint_at(alloc, flow, site, joint)
 }
 
-/// The flow with another graph for a function.
-fn with_graph(flow: Flow, function: u32, graph: Graph) -> Result<Flow, NoMemory>
-    ensures { IfOk result (λ new. new ≡ with_graph flow function graph) }
+/// What comes into the caller.
+fn joint_at(alloc: Global, flow: &Flow, site: &Site, live: &Live) -> Result<Joint, NoMemory>
+    requires { KnowsSite flow.now site.now live.now }
+    ensures { IfOk result (λ joint. IsJointAt flow.now site.now joint) }
+{
+    match find(flow, site) {
+        Some(found) => joint_for(alloc, &found, live),
+        None => Err(NoMemory),
+    }
+}
+
+#[tactic(auto, using(crate::proofs::Joints::any_free))]
+fn joint_for(alloc: Global, found: &FoundCall, live: &Live) -> Result<Joint, NoMemory>
+    requires { (v : ℕ) → IsTrue (lives live.now found.now.next v) ↔ IsLive found.now.caller.now found.now.next v }
+    ensures { IfOk result (λ joint. (free : Bank → List ℕ) → ((bank : Bank) → AreFree (seen found.now) bank (free bank)) → IsJoint (seen found.now) (taken found.now.callee.now free) joint) }
+{
+    let named = named(alloc, found.callee)?;
+    let free = free_values(alloc, live, found, &named)?;
+    joint_taking(alloc, found, &named, &free)
+}
+
+#[tactic(auto, using(crate::proofs::Tables::value_told, crate::proofs::Tables::named_rises))]
+fn joint_taking(
+    alloc: Global,
+    found: &FoundCall,
+    names: &ByBank,
+    free: &ByBank,
+) -> Result<Joint, NoMemory>
+    requires names { (bank : Bank) → of_bank names.now bank ≡ named found.now.callee.now bank }
+    ensures { IfOk result (λ joint. IsJoint (seen found.now) (taken found.now.callee.now (of_bank free.now)) joint) }
+{
+    let to = takes(alloc, found.callee.banks.as_slice(), names, free)?;
+    joint_of(alloc, found, to.as_slice())
+}
+
+/// The flow with all that comes into the caller of a site.
+fn with_joint_at(alloc: Global, flow: Flow, site: Site, joint: Joint) -> Result<Flow, NoMemory>
+    ensures { IfOk result (λ new. IsWithJoint flow site joint new) }
 {
     let Flow {
         functions,
@@ -88,7 +121,7 @@ fn with_graph(flow: Flow, function: u32, graph: Graph) -> Result<Flow, NoMemory>
         texts,
         main,
     } = flow;
-    let functions = replaced(functions, function, graph)?;
+    let functions = replaced(alloc, functions, site, joint)?;
     Ok(Flow {
         functions,
         globals,
@@ -98,104 +131,38 @@ fn with_graph(flow: Flow, function: u32, graph: Graph) -> Result<Flow, NoMemory>
 }
 
 fn replaced(
+    alloc: Global,
     functions: Listed<Graph>,
-    function: u32,
-    graph: Graph,
+    site: Site,
+    joint: Joint,
 ) -> Result<Listed<Graph>, NoMemory>
-    ensures { IfOk result (λ new. new ≡ slice_set functions function graph) }
+    ensures { IfOk result (λ new. AreWithJoint functions site joint new) }
 {
     let mut graphs = functions.into_vec();
-    if (function as usize) < graphs.len() {
-        graphs[function as usize] = graph;
-    }
+    replace_blocks(alloc, &mut graphs, site, joint)?;
     Ok(Listed::from_vec(graphs)?)
 }
 
-/// The graph of the caller with the callee in place of the call.
-#[tactic(auto, using(crate::proofs::InlinedBlocks::graph_is))]
-fn graph_of(alloc: Global, flow: &Flow, site: &Site, live: &Live) -> Result<Graph, NoMemory>
-    requires { KnowsSite flow.now site.now live.now }
-    ensures { IfOk result (λ graph. IsInlinedGraph flow.now site.now graph) }
+/// Puts the blocks with all that comes into the caller in place of its own.
+#[tactic(auto, using(crate::proofs::Joints::with_joint_there))]
+fn replace_blocks(
+    alloc: Global,
+    graphs: &mut Vec<Graph>,
+    site: Site,
+    joint: Joint,
+) -> Result<(), NoMemory>
+    ensures { IfOk result (λ _. AreWithJoint graphs.old.items site joint graphs.new.items) }
 {
-    match find(flow, site) {
-        Some(found) => {
-            let blocks = inlined(alloc, &found, site.block, live)?;
-            with_blocks(alloc, found.caller, blocks)
-        }
+    match graphs.get_mut(site.function as usize) {
+        Some(graph) => take_joint(alloc, graph, joint, site),
         None => Err(NoMemory),
     }
 }
 
-#[tactic(auto, using(crate::proofs::InlinedBlocks::any_free))]
-fn inlined(
-    alloc: Global,
-    found: &FoundCall,
-    site: BlockId,
-    live: &Live,
-) -> Result<Listed<Block>, NoMemory>
-    requires { (v : ℕ) → IsTrue (lives live.now found.now.next v) ↔ IsLive found.now.caller.now found.now.next v }
-    ensures { IfOk result (λ blocks. IsInlinedBlocks (seen found.now) site blocks) }
+fn take_joint(alloc: Global, graph: &mut Graph, joint: Joint, site: Site) -> Result<(), NoMemory>
+    ensures { IfOk result (λ _. graph.new ≡ joined_graph joint site graph.old) }
 {
-    let free = free_values(alloc, live, found)?;
-    inlined_with(alloc, found, site, &free)
-}
-
-#[tactic(auto, using(crate::proofs::InlinedBlocks::with_taken, crate::proofs::Tables::value_told, crate::proofs::Tables::named_rises))]
-fn inlined_with(
-    alloc: Global,
-    found: &FoundCall,
-    site: BlockId,
-    free: &ByBank,
-) -> Result<Listed<Block>, NoMemory>
-    ensures { IfOk result (λ blocks. blocks ≡ inlined_blocks (seen found.now) site (of_bank free.now)) }
-{
-    let named = named(alloc, found.callee)?;
-    let to = takes(alloc, found.callee.banks.as_slice(), &named, free)?;
-    placed_with(alloc, found, site, to.as_slice())
-}
-
-/// The blocks, where the values of the callee take those of a table.
-#[tactic(auto, using(crate::proofs::InlinedBlocks::with_links))]
-fn placed_with(
-    alloc: Global,
-    found: &FoundCall,
-    site: BlockId,
-    to: &[Value],
-) -> Result<Listed<Block>, NoMemory>
-    ensures { IfOk result (λ blocks. blocks ≡ inlined_by (seen found.now) site (value_at to.now)) }
-{
-    let callers = plain_count(found.caller.blocks.as_slice())?;
-    let all = sum(callers, plain_count(found.callee.blocks.as_slice())?)?;
-    let blocks = joined(alloc, found, site, to, callers, all)?;
-    let _count = blocks.len();
-    let edges = critical(alloc, blocks.as_slice())?;
-    linked(alloc, all, &edges, blocks)
-}
-
-/// The blocks before there are blocks for edges.
-#[tactic(auto, using(crate::proofs::InlinedBlocks::with_places))]
-fn joined(
-    alloc: Global,
-    found: &FoundCall,
-    site: BlockId,
-    to: &[Value],
-    callers: u32,
-    all: u32,
-) -> Result<Listed<Block>, NoMemory>
-    ensures { IfOk result (λ blocks. blocks ≡ joined_by (seen found.now) site (value_at to.now) callers all) }
-{
-    let caller = found.caller.blocks.as_slice();
-    let callee = found.callee.blocks.as_slice();
-    let kinds = kinds(alloc, caller, callee)?;
-    let at = places_of(alloc, 0, all, kinds.as_slice(), caller)?;
-    let copy = places_of(alloc, callers, all, kinds.as_slice(), callee)?;
-    let splice = Splice {
-        call: found,
-        site,
-        at: &at,
-        copy: &copy,
-        kinds: kinds.as_slice(),
-        to,
-    };
-    spliced(alloc, &splice)
+    let blocks = replace(&mut graph.blocks, Listed::new(alloc));
+    graph.blocks = with_joint(alloc, blocks, joint, site.block)?;
+    Ok(())
 }

@@ -4,7 +4,9 @@
 #![tactic(auto)]
 
 pub mod by_bank;
+mod call_lists;
 mod called;
+mod caller_blocks;
 pub mod choice;
 mod edge_blocks;
 mod fitting;
@@ -12,6 +14,7 @@ pub mod found_call;
 mod free_values;
 mod inlined_flow;
 mod inlining;
+pub mod joint;
 pub mod known;
 mod marks;
 mod names;

@@ -21,7 +21,7 @@ use vx_flow::graph::{Block, Exit, Graph, Value};
 use vx_flow::live;
 
 /// How often blocks are gone through for one that returns; paths that go back to lower blocks more often are not found.
-const ROUNDS: u32 = 4;
+const ROUNDS: u32 = 64;
 
 /// Whether what is live behind the calls of the caller surely stays as it is, with the call inlined.
 pub(crate) fn keeps_known(alloc: Global, found: &FoundCall) -> Result<bool, NoMemory>

@@ -1,11 +1,11 @@
-// The blocks of the caller and copies of those of the callee, one behind the other, before there are blocks for edges.
+// What stands behind the blocks of the caller, before there are blocks for edges: copies of the blocks of the callee, and trap blocks.
 
-ghost use Rattle.std.specs.Prelude.{◌≡◌, ◌++◌, ◌∷◌, [], ◌==◌, if◌then◌else◌, IfOk, map, slice_get};
+ghost use Rattle.std.specs.Prelude.{◌≡◌, ◌++◌, ◌∷◌, [], IfOk, map, slice_get};
 ghost use Rattle.std.specs.List.{filter};
 ghost use Rattle.vx_flow.specs.Operands.{with_values};
-ghost use Rattle.vx_inline.specs.Inlined.{is_plain, move, moved, moves_in, moves_out, stayed, stayed_all};
+ghost use Rattle.vx_inline.specs.Inlined.{is_plain, move, moved, moves_in, moves_out};
 ghost use Rattle.vx_inline.specs.Placing.{place_in};
-ghost use Rattle.vx_inline.specs.Splicing.{back_exit, back_moves, copied_by, enter_of, move_at, spliced_by, trap_block};
+ghost use Rattle.vx_inline.specs.Splicing.{added_by, back_exit, back_moves, copied_by, move_at, trap_block};
 ghost use Rattle.vx_inline.specs.Taking.{value_at};
 
 use crate::found_call::FoundCall;
@@ -13,36 +13,34 @@ use crate::places::{Places, is_plain, place_of};
 use crate::takes::{renamed, renamed_operand, value_at};
 use std::alloc::Global;
 use vx_base::arithmetic::Code;
-use vx_base::listed::{Listed, copied};
+use vx_base::listed::Listed;
 use vx_base::outcome::{NoMemory, Trap};
 use vx_flow::copies::copied_exit;
 use vx_flow::graph::{Block, BlockId, Exit, Op, Operand, Value};
 
-/// What blocks are spliced by: the call and its block, where blocks of the caller and of the callee stand, the kinds of trap
-/// blocks, and what each value of the callee takes.
+/// What blocks are copied by: the call, where blocks of the caller and of the callee stand, the kinds of trap blocks, and what each
+/// value of the callee takes.
 #[derive(Clone, Copy)]
 pub struct Splice<'a> {
     pub call: &'a FoundCall<'a>,
-    pub site: BlockId,
     pub at: &'a Places,
     pub copy: &'a Places,
     pub kinds: &'a [Trap],
     pub to: &'a [Value],
 }
 
-/// The blocks of the caller, the copies of those of the callee, and a trap block for each kind.
-pub(crate) fn spliced(alloc: Global, splice: &Splice) -> Result<Listed<Block>, NoMemory>
-    ensures { IfOk result (λ blocks. blocks ≡ spliced_by splice.now) }
+/// The copies of the blocks of the callee, and a trap block for each kind.
+pub(crate) fn added(alloc: Global, splice: &Splice) -> Result<Listed<Block>, NoMemory>
+    ensures { IfOk result (λ blocks. blocks ≡ added_by splice.now) }
 {
     let mut blocks = Listed::new(alloc);
-    push_stayed(alloc, &mut blocks, splice)?;
     push_copied(alloc, &mut blocks, splice)?;
     push_traps(alloc, &mut blocks, splice.kinds)?;
     Ok(blocks)
 }
 
 /// Adds a block that is no trap block.
-fn push_plain(blocks: &mut Listed<Block>, block: Block) -> Result<(), NoMemory>
+pub(crate) fn push_plain(blocks: &mut Listed<Block>, block: Block) -> Result<(), NoMemory>
     ensures { IfOk result (λ _. blocks.new ≡ blocks.old ++ filter is_plain (block ∷ [])) }
 {
     if is_plain(&block) {
@@ -51,45 +49,8 @@ fn push_plain(blocks: &mut Listed<Block>, block: Block) -> Result<(), NoMemory>
     Ok(())
 }
 
-#[tactic(auto, using(crate::proofs::Splicing::stayed_next))]
-fn push_stayed(alloc: Global, blocks: &mut Listed<Block>, splice: &Splice) -> Result<(), NoMemory>
-    ensures { IfOk result (λ _. blocks.new ≡ blocks.old ++ filter is_plain (stayed_all (place_in splice.now.at.now) (enter_of splice.now) splice.now.site 0 splice.now.call.now.caller.now.blocks)) }
-{
-    for (place, block) in splice.call.caller.blocks.as_slice().iter().enumerate() {
-        push_plain(blocks, stayed_or_entering(alloc, splice, place, block)?)?;
-    }
-    Ok(())
-}
-
-fn stayed_or_entering(
-    alloc: Global,
-    splice: &Splice,
-    place: usize,
-    block: &Block,
-) -> Result<Block, NoMemory>
-    ensures { IfOk result (λ new. new ≡ (if place == splice.now.site then enter_of splice.now else stayed (place_in splice.now.at.now) block.now)) }
-{
-    if place == splice.site as usize {
-        entering(alloc, splice)
-    } else {
-        stayed(alloc, splice.at, block)
-    }
-}
-
-/// A block of the caller.
-fn stayed(alloc: Global, at: &Places, block: &Block) -> Result<Block, NoMemory>
-    ensures { IfOk result (λ new. new ≡ stayed (place_in at.now) block.now) }
-{
-    let exit = copied_exit(alloc, &block.exit)?;
-    let ops = copied(alloc, block.ops.as_slice())?;
-    Ok(Block {
-        ops,
-        exit: moved(at, exit),
-    })
-}
-
 /// An exit with each target moved.
-fn moved(at: &Places, exit: Exit) -> Exit
+pub(crate) fn moved(at: &Places, exit: Exit) -> Exit
     ensures { result ≡ moved (place_in at.now) exit }
 {
     match exit {
@@ -115,18 +76,18 @@ fn moved(at: &Places, exit: Exit) -> Exit
     }
 }
 
-/// The block that called: a move for each argument, and on to the copy of the callee's entry.
-fn entering(alloc: Global, splice: &Splice) -> Result<Block, NoMemory>
-    ensures { IfOk result (λ block. block ≡ enter_of splice.now) }
+/// A move of each argument to what its parameter takes.
+pub(crate) fn moves_of(
+    alloc: Global,
+    call: &FoundCall,
+    to: &[Value],
+) -> Result<Listed<Op>, NoMemory>
+    ensures { IfOk result (λ ops. ops ≡ moves_in (value_at to.now) call.now.callee.now.parameters call.now.arguments.now) }
 {
-    let call = splice.call;
-    let mut ops = copied(alloc, call.block.ops.as_slice())?;
+    let mut ops = Listed::new(alloc);
     let parameters = call.callee.parameters.as_slice();
-    push_moves(&mut ops, splice.to, parameters, call.arguments.as_slice())?;
-    Ok(Block {
-        ops,
-        exit: Exit::Goto(place_of(splice.copy, 0)),
-    })
+    push_moves(&mut ops, to, parameters, call.arguments.as_slice())?;
+    Ok(ops)
 }
 
 /// Adds a move of each argument to what its parameter takes.

@@ -15,13 +15,17 @@ next_state-requires-clause-permitted c =
 pub sites-preserved : goal.sites-preserved
 sites-preserved c =
     let first : IsChosen c.sites.now.flow c.args.counts.now c.args.most c.in-Some.site = subst (Chosen c.sites.now.flow c.args.counts.now c.args.most) c.in-Some.is c.in_ok-site.ensures.chosen in
-    let sound = inlined_sound c.sites.now.flow c.in_ok-now-in-Some.now.flow c.in-Some.site c.sites.invariant.0.sound c.in_ok-now-in-Some.ensures.inlined in
-    (kept_next c.args.counts.now c.args.most c.args.flow c.sites.now.flow c.in_ok-now-in-Some.now.flow c.in-Some.site c.sites.invariant.0 first c.in_ok-now-in-Some.ensures.inlined sound, c.in_ok-now-in-Some.ensures.known)
+    let sound = inlined_sound c.sites.now.flow c.in_ok-now-in-Some.now.flow c.in-Some.site c.sites.invariant.kept.sound c.in_ok-now-in-Some.ensures.inlined in
+    record {
+      kept = kept_next c.args.counts.now c.args.most c.args.flow c.sites.now.flow c.in_ok-now-in-Some.now.flow c.in-Some.site c.sites.invariant.kept first c.in_ok-now-in-Some.ensures.inlined sound;
+      known = c.in_ok-now-in-Some.ensures.known;
+      calls = c.in_ok-now-in-Some.ensures.calls;
+    }
 
 pub returns-in-None-clause-all : goal.returns-in-None-clause-all
 returns-in-None-clause-all c =
     let none : Chosen c.sites.now.flow c.args.counts.now c.args.most None = subst (Chosen c.sites.now.flow c.args.counts.now c.args.most) c.in-None.is c.in_ok-site.ensures.chosen in
-    subst (InlinesAll c.args.counts.now c.args.most c.args.flow) (sym c.flow_of.ensures) (kept_last c.args.counts.now c.args.most c.args.flow c.sites.now.flow c.sites.invariant.0 none)
+    subst (InlinesAll c.args.counts.now c.args.most c.args.flow) (sym c.flow_of.ensures) (kept_last c.args.counts.now c.args.most c.args.flow c.sites.now.flow c.sites.invariant.kept none)
 
 pub returns-in-None-clause-none : goal.returns-in-None-clause-none
 returns-in-None-clause-none c =

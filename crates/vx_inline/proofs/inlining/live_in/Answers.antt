@@ -1,7 +1,7 @@
 use Rattle.std.proofs.Common.{sym}
 use Rattle.std.proofs.lemmas.Result.{IfOk-weaker}
 use Rattle.vx_inline.specs.Finding.{seen}
-use Rattle.vx_inline.proofs.InlinedBlocks.{found_behind}
+use Rattle.vx_inline.proofs.Joints.{found_behind}
 use Rattle.vx_inline.proofs.inlining.live_in.Goals as goal
 
 pub returns-in-Some : goal.returns-in-Some
