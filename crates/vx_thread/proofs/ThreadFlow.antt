@@ -1,8 +1,8 @@
 -- A flow of a program with edges that go straight past tests stays one; and steps of the pass.
-use Rattle.std.proofs.Common.{◌≡◌, inl, inr, ℕ, zero, suc, ◌+◌, ◌<◌, Bool, true, ℤ, List, [], ◌∷◌, ◌++◌, length, take, get_or, slice_get, Option, Some, None, refl, sym, ap, ◌∙◌, subst, arith}
+use Rattle.std.proofs.Common.{◌≡◌, ℕ, zero, suc, ◌+◌, ◌<◌, true, ℤ, List, [], ◌∷◌, ◌++◌, length, take, get_or, slice_get, Option, Some, None, IfSome, refl, sym, ap, ◌∙◌, subst}
 use Rattle.std.proofs.lemmas.Bool.{and_parts, eqb-true}
 use Rattle.vx_base.specs.Outcome.{Same, NeverFails}
-use Rattle.vx_base.proofs.Same.{same_on}
+use Rattle.vx_base.proofs.Same.{same_on, same_self}
 use Rattle.vx_ast.specs.Tree.{Function, Program}
 use Rattle.vx_ast.specs.Meaning.{source}
 use Rattle.vx_flow.specs.declared.graph.Block.{Block}
@@ -22,19 +22,19 @@ use Rattle.std.proofs.lemmas.List.{take_more}
 use Rattle.vx_claims.specs.declared.claim.Claim.{Claim}
 use Rattle.vx_claims.specs.declared.intervals.Interval.{Interval}
 use Rattle.vx_clean.specs.Cleaning.{Place, FunctionCleaned, Cleaned}
-use Rattle.vx_clean.specs.Laying.{joined, laid, places_from}
+use Rattle.vx_clean.specs.Laying.{laid, places_from}
 use Rattle.vx_clean.specs.LinkTest.{is_near_in, is_linked, moves, is_laid_out}
 use Rattle.vx_clean.proofs.Cleans.{cleaned_runs}
 use Rattle.vx_clean.proofs.Lays.{laid_cleaned}
 use Rattle.vx_clean.proofs.LinkTests.{begun_if, linked_if}
 use Rattle.vx_clean.proofs.Stays.{graph_itself}
 use Rattle.vx_narrow.specs.Rewriting.{narrowed_graph}
-use Rattle.vx_narrow.specs.Narrowing.{are_numbers, GraphNarrowed, GraphsNarrowed, NarrowedWith}
+use Rattle.vx_narrow.specs.Narrowing.{are_numbers, GraphsNarrowed, NarrowedWith}
 use Rattle.vx_flow.specs.Apart.{GlobalsFirst, HasGlobalsFirst}
 use Rattle.vx_flow.proofs.Entering.{globals_first}
 use Rattle.vx_flow.proofs.SoundFlowLaw.{flow_is}
 use Rattle.vx_narrow.proofs.Staged.{narrowed_graphs_run}
-use Rattle.vx_thread.specs.Threading.{AreShaped, Copied, Threaded, ThreadedStays}
+use Rattle.vx_thread.specs.Threading.{AreShaped, Copied, Steps, none, more, Threaded, ThreadedStays}
 
 -- ---- graphs that differ in their blocks alone
 
@@ -61,17 +61,6 @@ shaped_at (x ∷ gs) s (suc f) g e = shaped_at gs s.1 f g e
 graph_of : (p : Program) (function : Function) (g h : Graph) → Kept g h → GraphOf p function g → Shaped h → GraphOf p function h
 graph_of p function g h e o s = subst (GraphOf p function) (sym e) (shape_kept p function h.blocks g o (subst Shaped e s))
 
--- the graph of a function, where each one between is an old one copied and each new one is one between narrowed
-graph_by : (p : Program) (function : Function) (o m n : Option Graph) → At Copied o m → At Kept m n → ((g : Graph) → o ≡ Some g → GraphOf p function g) → (h : Graph) → n ≡ Some h → Shaped h → GraphOf p function h
-graph_by p function None None None c k old h e s = absurd (cc)
-graph_by p function None None (Some y) c k old h e s = absurd k
-graph_by p function None (Some x) n c k old h e s = absurd c
-graph_by p function (Some g) None n c k old h e s = absurd c
-graph_by p function (Some g) (Some x) None c k old h e s = absurd k
-graph_by p function (Some g) (Some x) (Some y) c k old h e s =
-    let q : y ≡ h = cc in
-    graph_of p function g h (subst (Kept g) q (kept_then g x y c.is k)) (old g refl) s
-
 -- what is copied and what is old have the same globals
 first_by : (n : ℕ) (o q : Option Graph) → At Copied o q → ((g : Graph) → o ≡ Some g → GlobalsFirst n g.arrays) → (h : Graph) → q ≡ Some h → GlobalsFirst n h.arrays
 first_by n None None c old h e = absurd (cc)
@@ -95,29 +84,101 @@ cleaned_by None (Some h) s = absurd s
 cleaned_by (Some g) None s = absurd s
 cleaned_by (Some g) (Some h) s = s.cleaned
 
+-- what a flow does with these graphs, it does with those, where it never fails
+record Runs (flow : Flow) (gs hs : List Graph) : Type 0 where
+  first : HasGlobalsFirst (with_graphs flow gs) → HasGlobalsFirst (with_graphs flow hs)
+  same : HasGlobalsFirst (with_graphs flow gs) → (input : List ℤ) → AreNumbers input → NeverFails (graph_run (with_graphs flow gs) input) →
+      Same (graph_run (with_graphs flow gs) input) (graph_run (with_graphs flow hs) input) × NeverFails (graph_run (with_graphs flow hs) input)
+
+first_kept : (n : ℕ) (o q : Option Graph) → At Kept o q → ((g : Graph) → o ≡ Some g → GlobalsFirst n g.arrays) → (h : Graph) → q ≡ Some h → GlobalsFirst n h.arrays
+first_kept n None None c old h e = absurd (cc)
+first_kept n None (Some y) c old h e = absurd c
+first_kept n (Some g) None c old h e = absurd c
+first_kept n (Some g) (Some y) c old h e =
+    let q : y ≡ h = cc in
+    subst (λ (x : Graph). GlobalsFirst n x.arrays) q (subst (λ (x : Graph). GlobalsFirst n x.arrays) (sym c) (old g refl))
+
+copied_kept : (gs hs : List Graph) → Each Copied gs hs → Each Kept gs hs
+copied_kept [] [] s = tt
+copied_kept [] (h ∷ hs) s = absurd s
+copied_kept (g ∷ gs) [] s = absurd s
+copied_kept (g ∷ gs) (h ∷ hs) s = (s.0.is, copied_kept gs hs s.1)
+
+kept_both : (gs ms hs : List Graph) → Each Kept gs ms → Each Kept ms hs → Each Kept gs hs
+kept_both [] [] [] s t = tt
+kept_both [] [] (h ∷ hs) s t = absurd t
+kept_both [] (m ∷ ms) hs s t = absurd s
+kept_both (g ∷ gs) [] hs s t = absurd s
+kept_both (g ∷ gs) (m ∷ ms) [] s t = absurd t
+kept_both (g ∷ gs) (m ∷ ms) (h ∷ hs) s t = (kept_then g m h s.0 t.0, kept_both gs ms hs s.1 t.1)
+
+kept_all : (gs : List Graph) → Each Kept gs gs
+kept_all [] = tt
+kept_all (g ∷ gs) = (refl, kept_all gs)
+
+steps_kept : {gs hs : List Graph} → Steps gs hs → Each Kept gs hs
+steps_kept {gs} none = kept_all gs
+steps_kept {gs} {hs} (more {now} between s c n) = kept_both gs now hs (steps_kept s) (kept_both now between hs (copied_kept now between c) (kept_each n.0 0 between hs n.1))
+
+step_runs : (flow : Flow) (gs between hs : List Graph) → Each Copied gs between → GraphsNarrowed between hs → are_numbers flow.globals ≡ true → Runs flow gs hs
+step_runs flow gs between hs c n numbers =
+    let old : Flow = with_graphs flow gs in
+    let middle : Flow = with_graphs flow between in
+    let at : (f : ℕ) → At Copied (slice_get gs f) (slice_get between f) = each_at Copied gs between c in
+    let places : ℕ → ℕ → List Place = λ f. places_by (slice_get gs f) (slice_get between f) (at f) in
+    let cleaned : Cleaned places old between = λ f. cleaned_by (slice_get gs f) (slice_get between f) (at f) in
+    let kept : Each Kept between hs = kept_each n.0 0 between hs n.1 in
+    let also : (f : ℕ) → At Kept (slice_get between f) (slice_get hs f) = each_at Kept between hs kept in
+    let first : HasGlobalsFirst old → HasGlobalsFirst middle = λ o f g e. first_by (length flow.globals) (slice_get gs f) (slice_get between f) (at f) (o f) g e in
+    record {
+      first = λ o f g e. first_kept (length flow.globals) (slice_get between f) (slice_get hs f) (also f) (first o f) g e;
+      same = λ o input ns never.
+          let both : Same (graph_run old input) (graph_run middle input) × NeverFails (graph_run middle input) = cleaned_runs old between places cleaned input never in
+          let runs : graph_run (with_graphs flow hs) input ≡ graph_run middle input = λ i k. narrowed_graphs_run middle hs n numbers (first o) input ns both.1 k i in
+          (subst (Same (graph_run old input)) (sym runs) both.0, subst NeverFails (sym runs) both.1);
+    }
+
+runs_then : (flow : Flow) (gs ms hs : List Graph) → Runs flow gs ms → Runs flow ms hs → Runs flow gs hs
+runs_then flow gs ms hs a b = record {
+  first = λ o. b.first (a.first o);
+  same = λ o input ns never.
+      let k = a.same o input ns never in
+      let l = b.same (a.first o) input ns k.1 in
+      (same_on (graph_run (with_graphs flow gs) input) (graph_run (with_graphs flow ms) input) (graph_run (with_graphs flow hs) input) k.0 l.0, l.1);
+}
+
+runs_itself : (flow : Flow) (gs : List Graph) → Runs flow gs gs
+runs_itself flow gs = record { first = λ o. o; same = λ o input ns never. (same_self (graph_run (with_graphs flow gs) input), never) }
+
+steps_run : (flow : Flow) {gs hs : List Graph} → Steps gs hs → are_numbers flow.globals ≡ true → Runs flow gs hs
+steps_run flow {gs} none numbers = runs_itself flow gs
+steps_run flow {gs} {hs} (more {now} between s c n) numbers = runs_then flow gs now hs (steps_run flow s numbers) (step_runs flow now between hs c n numbers)
+
+graph_at : (p : Program) (function : Function) (o n : Option Graph) → At Kept o n → ((g : Graph) → o ≡ Some g → GraphOf p function g) → (h : Graph) → n ≡ Some h → Shaped h → GraphOf p function h
+graph_at p function None None k old h e s = absurd (cc)
+graph_at p function None (Some y) k old h e s = absurd k
+graph_at p function (Some g) None k old h e s = absurd k
+graph_at p function (Some g) (Some y) k old h e s =
+    let q : y ≡ h = cc in
+    graph_of p function g h (subst (Kept g) q k) (old g refl) s
+
 pub threaded_stays : ThreadedStays
 threaded_stays flow graphs t numbers sound p o =
-    let between : List Graph = t.between in
-    let middle : Flow = with_graphs flow between in
-    let at : (f : ℕ) → At Copied (slice_get flow.functions f) (slice_get between f) = each_at Copied flow.functions between t.copied in
-    let places : ℕ → ℕ → List Place = λ f. places_by (slice_get flow.functions f) (slice_get between f) (at f) in
-    let cleaned : Cleaned places flow between = λ f. cleaned_by (slice_get flow.functions f) (slice_get between f) (at f) in
-    let both : (input : List ℤ) → AreNumbers input → Same (graph_run flow input) (graph_run middle input) × NeverFails (graph_run middle input) =
-    λ input ns. cleaned_runs flow between places cleaned input (o.runs.never_wrong input ns) in
-    let first : HasGlobalsFirst middle = λ f g e. first_by (length flow.globals) (slice_get flow.functions f) (slice_get between f) (at f) (λ h r. globals_first flow (flow_is flow o.sound) f h r) g e in
-    let runs : (input : List ℤ) → AreNumbers input → graph_run (with_graphs flow graphs) input ≡ graph_run middle input =
-    λ input ns. (let b = both input ns in λ i k. narrowed_graphs_run middle graphs t.narrowed numbers first input ns b.1 k i) in
-    let kept : Each Kept between graphs = kept_each t.narrowed.0 0 between graphs t.narrowed.1 in
-    let also : (f : ℕ) → At Kept (slice_get between f) (slice_get graphs f) = each_at Kept between graphs kept in
+    let all : Runs flow flow.functions graphs = steps_run flow t.steps numbers in
+    let first : HasGlobalsFirst flow = globals_first flow (flow_is flow o.sound) in
+    let both : (input : List ℤ) → AreNumbers input → Same (graph_run flow input) (graph_run (with_graphs flow graphs) input) × NeverFails (graph_run (with_graphs flow graphs) input) =
+    λ input ns. all.same first input ns (o.runs.never_wrong input ns) in
+    let kept : Each Kept flow.functions graphs = steps_kept t.steps in
+    let also : (f : ℕ) → At Kept (slice_get flow.functions f) (slice_get graphs f) = each_at Kept flow.functions graphs kept in
     record {
       sound = sound;
-      count = each_length Kept between graphs kept ∙ each_length Copied flow.functions between t.copied ∙ o.count;
-      graphs = λ f function graph e q. graph_by p function (slice_get flow.functions f) (slice_get between f) (slice_get graphs f) (at f) (also f) (λ g r. o.graphs f function g e r) graph q (shaped_at graphs t.shaped f graph q);
+      count = each_length Kept flow.functions graphs kept ∙ o.count;
+      graphs = λ f function graph e q. graph_at p function (slice_get flow.functions f) (slice_get graphs f) (also f) (λ g r. o.graphs f function g e r) graph q (shaped_at graphs t.shaped f graph q);
       globals = o.globals;
       main = o.main;
       runs = record {
-        same = λ input ns. let b = both input ns in subst (Same (source p input)) (sym (runs input ns)) (same_on (source p input) (graph_run flow input) (graph_run middle input) (o.runs.same input ns) b.0);
-        never_wrong = λ input ns. let b = both input ns in subst NeverFails (sym (runs input ns)) b.1;
+        same = λ input ns. same_on (source p input) (graph_run flow input) (graph_run (with_graphs flow graphs) input) (o.runs.same input ns) (both input ns).0;
+        never_wrong = λ input ns. (both input ns).1;
       };
     }
 
@@ -141,8 +202,12 @@ copied_where_laid to chains g h e t =
 itself : (g : Graph) → Copied g g
 itself g = let s = graph_itself g in record { at = s.at; cleaned = s.cleaned; is = refl }
 
-pub threaded_by : (old between new : List Graph) → Each (OrSame Copied) old between → GraphsNarrowed between new → AreShaped new → Threaded old new
-threaded_by old between new c n s = record { between = between; copied = each_related Copied old between itself c; narrowed = n; shaped = s }
+pub step_made : (old now between new : List Graph) → Steps old now → Each (OrSame Copied) now between → GraphsNarrowed between new → Steps old new
+step_made old now between new s c n = more between s (each_related Copied now between itself c) n
+
+pub step_found : (graphs between : List Graph) (found : Option (List Graph)) → Each (OrSame Copied) graphs between → IfSome found (λ made. GraphsNarrowed between made) → IfSome found (λ new. (old : List Graph) → Steps old graphs → Steps old new)
+step_found graphs between None c h = h
+step_found graphs between (Some new) c h = λ old s. step_made old graphs between new s c h
 
 pub flow_threaded : (flow new : Flow) (graphs : List Graph) → Threaded flow.functions graphs → are_numbers flow.globals ≡ true → new ≡ with_graphs flow graphs → is_sound_flow new ≡ true → FlowStays flow new
 flow_threaded flow new graphs t numbers e sound p o =

@@ -1,6 +1,6 @@
 -- Graphs in which edges go straight past tests that they decide: a block that ends by such a test is copied to the ends of the blocks
--- that lead to it, and the copies are narrowed by what is known there. When graphs are such ones, and the law that a flow of a
--- program stays one.
+-- that lead to it, and the copies are narrowed by what is known there; and so again, as a loop of few turns is put turn by turn behind
+-- the block before it. When graphs are such ones, and the law that a flow of a program stays one.
 use Rattle.std.specs.Prelude.{◌≡◌, ℕ, true, List, [], ◌∷◌}
 use Rattle.vx_flow.specs.declared.graph.Graph.{Graph}
 use Rattle.vx_flow.specs.declared.graph.Flow.{Flow}
@@ -20,11 +20,14 @@ abbrev pub AreShaped : List Graph → Type 0
 AreShaped [] = Unit {0}
 AreShaped (g ∷ gs) = Shaped g × AreShaped gs
 
--- the new graphs are the old ones, with blocks copied and then narrowed, and have their shape
+-- the new graphs come of the old ones step by step: blocks are copied, and the graphs then narrowed
+pub data Steps (old : List Graph) : List Graph → Type 0 where
+  none : Steps old old
+  more : {now new : List Graph} (between : List Graph) → Steps old now → Each Copied now between → GraphsNarrowed between new → Steps old new
+
+-- they do, and have their shape
 pub record Threaded (old new : List Graph) : Type 0 where
-  pub between : List Graph
-  pub copied : Each Copied old between
-  pub narrowed : GraphsNarrowed between new
+  pub steps : Steps old new
   pub shaped : AreShaped new
 
 abbrev pub ThreadedStays : Type 0

@@ -1,14 +1,15 @@
 // The graphs of a program with blocks copied to the ends of those that lead to them, as was looked for, and then narrowed, so that
 // each copy goes one way. Where copies are not as is asked, or a graph would not have its shape, the flow stays as it is.
 
-ghost use Rattle.std.specs.Prelude.{◌≡◌, true, IfOk, IfSome};
+ghost use Rattle.std.specs.Prelude.{◌≡◌, true, List, IfOk, IfSome};
 ghost use Rattle.vx_ast.specs.Tree.{Program};
 ghost use Rattle.vx_flow.specs.Sound.{is_sound_flow};
 ghost use Rattle.vx_lower.specs.FlowOf.{FlowOf};
 ghost use Rattle.vx_shape.specs.Flows.{FlowStays};
 ghost use Rattle.vx_shape.specs.Shape.{Shaped};
 ghost use Rattle.vx_narrow.specs.Narrowing.{are_numbers};
-ghost use Rattle.vx_thread.specs.Threading.{AreShaped, Copied, Threaded};
+ghost use Rattle.vx_flow.specs.declared.graph.Graph.{Graph};
+ghost use Rattle.vx_thread.specs.Threading.{AreShaped, Copied, Steps, Threaded};
 
 use crate::search::{Copies, copies_of, has_copies};
 use std::alloc::Global;
@@ -66,9 +67,63 @@ fn threaded_by(alloc: Global, flow: &Flow, wanted: &[Copies]) -> Result<Option<F
     ensures sound { IfOk result (λ found. IfSome found (λ threaded. is_sound_flow threaded ≡ true)) }
     ensures flow { IfOk result (λ found. IfSome found (λ threaded. FlowStays flow.now threaded)) }
 {
-    match threaded_graphs(alloc, wanted, flow.functions.as_slice())? {
+    match threaded_again(alloc, wanted, flow.functions.as_slice())? {
         Some(functions) => with_sound_graphs(alloc, flow, functions),
         None => Ok(None),
+    }
+}
+
+/// How many steps follow the first at most: as many as a loop has turns, and one that goes past its last test.
+const MOST_STEPS: u32 = 9;
+
+/// The graphs with what is wanted of each copied, and then narrowed, and so again as long as more is wanted, where all have their shape
+/// then.
+fn threaded_again(
+    alloc: Global,
+    wanted: &[Copies],
+    graphs: &[Graph],
+) -> Result<Option<Listed<Graph>>, NoMemory>
+    ensures { IfOk result (λ found. IfSome found (λ threaded. Threaded graphs.now threaded)) }
+{
+    match threaded_once(alloc, wanted, graphs)? {
+        Some(first) => threaded_on(alloc, graphs, first),
+        None => Ok(None),
+    }
+}
+
+/// The graphs that come of others with more copied, step by step, where all have their shape in the end.
+fn threaded_on(
+    alloc: Global,
+    graphs: &[Graph],
+    first: Listed<Graph>,
+) -> Result<Option<Listed<Graph>>, NoMemory>
+    requires { Steps graphs.now first }
+    ensures { IfOk result (λ found. IfSome found (λ threaded. Threaded graphs.now threaded)) }
+{
+    let _graphs = graphs;
+    let mut now = first;
+    for _ in 0..MOST_STEPS {
+        match next_of(alloc, now.as_slice())? {
+            Some(next) => now = next,
+            None => break,
+        }
+    }
+    if are_shaped(alloc, now.as_slice())? {
+        Ok(Some(now))
+    } else {
+        Ok(None)
+    }
+}
+
+/// The graphs with more copied, if there is more, and then narrowed.
+fn next_of(alloc: Global, graphs: &[Graph]) -> Result<Option<Listed<Graph>>, NoMemory>
+    ensures { IfOk result (λ found. IfSome found (λ threaded. (old : List Graph) → Steps old graphs.now → Steps old threaded)) }
+{
+    let wanted = copies_of(alloc, graphs)?;
+    if has_copies(wanted.as_slice()) {
+        threaded_once(alloc, wanted.as_slice(), graphs)
+    } else {
+        Ok(None)
     }
 }
 
@@ -97,27 +152,18 @@ fn with_sound_graphs(
     }
 }
 
-/// The graphs with what is wanted of each copied, and then narrowed, where all have their shape.
-fn threaded_graphs(
+/// The graphs with what is wanted of each copied, and then narrowed.
+fn threaded_once(
     alloc: Global,
     wanted: &[Copies],
     graphs: &[Graph],
 ) -> Result<Option<Listed<Graph>>, NoMemory>
-    ensures { IfOk result (λ found. IfSome found (λ threaded. Threaded graphs.now threaded)) }
+    ensures { IfOk result (λ found. IfSome found (λ threaded. (old : List Graph) → Steps old graphs.now → Steps old threaded)) }
 {
     let between = each_made(alloc, &CopyPass { wanted }, graphs)?;
     let narrowed = narrowed_functions(alloc, between.as_slice());
     drop(between);
-    match narrowed? {
-        Some(threaded) => {
-            if are_shaped(alloc, threaded.as_slice())? {
-                Ok(Some(threaded))
-            } else {
-                Ok(None)
-            }
-        }
-        None => Ok(None),
-    }
+    narrowed
 }
 
 /// Whether graphs have their shape.
