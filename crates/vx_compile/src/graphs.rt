@@ -112,7 +112,8 @@ fn units_of(machine: &Machine) -> Units {
 const ENOUGH_TO_RAISE: u32 = 16;
 
 /// The graphs with operations raised over the bounds of blocks, where the machine has registers for more than one turn of a loop: counters
-/// are computed early first, and what came to a block from two others is made once there.
+/// are computed early first, and what came to a block from two others is made once there. On one cluster they are narrowed then and
+/// raised again, since a turn need not make what the block before it made.
 pub fn raised_for(
     alloc: Global,
     flow: Flow,
@@ -127,12 +128,13 @@ pub fn raised_for(
     if units.registers < ENOUGH_TO_RAISE {
         return Ok(flow);
     }
-    let narrowed = advanced_for(alloc, flow, &units)?;
-    let once = raised_inside(alloc, narrowed, counts, &units)?;
+    let advanced = advanced_for(alloc, flow, &units)?;
+    let once = raised_inside(alloc, advanced, counts, &units)?;
     if machine.clusters() > 1 {
         return Ok(once);
     }
-    raised_inside(alloc, once, counts, &units)
+    let narrowed = narrow(alloc, once)?;
+    raised_inside(alloc, narrowed, counts, &units)
 }
 
 /// The graphs with operations raised, and narrowed inside of blocks behind that: what reads no move any more may be raised further.
