@@ -8,8 +8,9 @@ use vx_base::outcome::NoMemory;
 use vx_flow::graph::{Op, Operand};
 use vx_flow::trace::Homes;
 use vx_isa::operation::UnitKind;
-use vx_machine::items::{ClusteredItem, Item};
-use vx_machine::{Machine, has_room, home_of};
+use vx_machine::Machine;
+use vx_room::items::{ClusteredItem, Item};
+use vx_room::{has_room, home_of};
 use vx_test_machines::{Kind, machine};
 
 const SUM: Item = Item::Plain(Op::Compute {
@@ -110,7 +111,7 @@ fn needs(row: &(Item, UnitKind, bool, bool, u32, u32)) -> bool {
         && item.is_observable() == *observable
         && item.writes_general() == *general
         && item.read_ports() == *ports
-        && Machine::vex(1).latency_of_item(item) == *latency
+        && item.latency(&Machine::vex(1)) == *latency
 }
 
 #[test]

@@ -12,9 +12,9 @@ use Rattle.vx_flow.specs.declared.trace.Trace.{Trace}
 use Rattle.vx_flow.specs.declared.trace.Homes.{Homes}
 use Rattle.vx_flow.specs.Effects.{IsIn}
 use Rattle.vx_isa.specs.Numbers.{Numbers, IsMachine}
-use Rattle.vx_machine.specs.declared.items.ClusteredItem.{ClusteredItem}
-use Rattle.vx_machine.specs.Items.{item_of, is_split, is_observable_item, general_reads, takes_port}
-use Rattle.vx_machine.specs.Room.{home_of, source_by, read_clusters, stands_well, stand_well, is_cluster, RoomAlone}
+use Rattle.vx_room.specs.declared.items.ClusteredItem.{ClusteredItem}
+use Rattle.vx_room.specs.Items.{item_of, is_split, is_observable_item, general_reads, takes_port}
+use Rattle.vx_room.specs.Room.{home_of, source_by, read_clusters, stands_well, stand_well, is_cluster, RoomAlone}
 use Rattle.vx_dep.specs.Delays.{Stands}
 use Rattle.vx_bug.specs.declared.clusters.Clusters.{Clusters}
 use Rattle.vx_bug.specs.Clusters.{is_bound, is_across, names_branch, at_first}

@@ -8,7 +8,7 @@ use Rattle.vx_isa.specs.declared.operation.UnitKind.TheVariants.{Alu, Multiply, 
 use Rattle.vx_isa.specs.Numbers.{Numbers, IsMachine}
 use Rattle.vx_isa.specs.Operations.{same_unit}
 use Rattle.vx_isa.proofs.Ranges.{Ranges, ranges}
-use Rattle.vx_machine.specs.Items.{item_of, unit_of_item}
+use Rattle.vx_room.specs.Items.{item_of, unit_of_item}
 use Rattle.vx_dep.specs.Delays.{reads_of}
 use Rattle.vx_dep.specs.Compensation.{greatest}
 use Rattle.vx_bug.specs.declared.bookings.Booking.{Booking}

@@ -11,7 +11,7 @@ use Rattle.vx_flow.specs.declared.trace.TraceOp.TheVariants.{Plain, Split}
 use Rattle.vx_flow.specs.Effects.{is_unary, value_in}
 use Rattle.vx_flow.specs.Operands.{held_by, reads_three, read_by, value_list, values_read}
 use Rattle.vx_flow.proofs.OperandLaws.{held_is}
-use Rattle.vx_machine.specs.Items.{item_of, writes_general}
+use Rattle.vx_room.specs.Items.{item_of, writes_general}
 use Rattle.vx_linear.specs.Followed.{writes_it}
 use Rattle.vx_dep.specs.Delays.{reads_of, writes_of}
 use Rattle.vx_dep.specs.Traits.{read, written}

@@ -4,7 +4,7 @@ use Rattle.std.proofs.lemmas.Bool.{ltb-true}
 use Rattle.vx_flow.specs.declared.trace.TraceOp.{TraceOp}
 use Rattle.vx_flow.specs.declared.trace.Trace.{Trace}
 use Rattle.vx_isa.specs.Numbers.{Numbers}
-use Rattle.vx_machine.specs.Items.{item_of, unit_of_item}
+use Rattle.vx_room.specs.Items.{item_of, unit_of_item}
 use Rattle.vx_dep.specs.Delays.{reads_of}
 use Rattle.vx_dep.specs.Compensation.{greatest}
 use Rattle.vx_bug.specs.declared.cluster_choice.Choice.{Choice}

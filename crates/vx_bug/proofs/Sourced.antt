@@ -6,7 +6,7 @@ use Rattle.vx_flow.specs.declared.trace.Trace.{Trace}
 use Rattle.vx_flow.specs.declared.operands.Reads.{Reads}
 use Rattle.vx_flow.specs.Operands.{values_read}
 use Rattle.vx_isa.specs.Numbers.{Numbers}
-use Rattle.vx_machine.specs.Items.{item_of, unit_of_item}
+use Rattle.vx_room.specs.Items.{item_of, unit_of_item}
 use Rattle.vx_linear.specs.Writers.{writer}
 use Rattle.vx_dep.specs.Delays.{reads_of}
 use Rattle.vx_bug.specs.declared.turns.Source.{Source}

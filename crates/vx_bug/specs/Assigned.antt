@@ -6,7 +6,7 @@ use Rattle.vx_flow.specs.declared.trace.Trace.{Trace}
 use Rattle.vx_flow.specs.declared.trace.Homes.{Homes}
 use Rattle.vx_flow.specs.Effects.{IsIn}
 use Rattle.vx_isa.specs.Numbers.{Numbers}
-use Rattle.vx_machine.specs.Room.{home_of}
+use Rattle.vx_room.specs.Room.{home_of}
 use Rattle.vx_dep.specs.Delays.{Stands}
 use Rattle.vx_bug.specs.Clusters.{Books, listed, at_first, books_after, estimate_of, IsBest}
 use Rattle.vx_bug.specs.Copies.{copy_of, pieces_of, joined, across, with_copies}

@@ -8,7 +8,7 @@ use Rattle.vx_flow.specs.declared.trace.Homes.{Homes}
 use Rattle.vx_flow.specs.Effects.{IsIn}
 use Rattle.vx_flow.specs.Operands.{binds, value_list}
 use Rattle.vx_isa.specs.Numbers.{Numbers}
-use Rattle.vx_machine.specs.Room.{home_of}
+use Rattle.vx_room.specs.Room.{home_of}
 use Rattle.vx_dep.specs.Delays.{Stands, reads_of, writes_of}
 use Rattle.vx_bug.specs.Clusters.{general_reads, general_writes, is_bound, is_across}
 

@@ -15,8 +15,8 @@ use Rattle.vx_isa.specs.declared.operation.UnitKind.{UnitKind}
 use Rattle.vx_isa.specs.declared.operation.UnitKind.TheVariants.{Alu, Multiply, Memory, Copies, Control}
 use Rattle.vx_isa.specs.Numbers.{Numbers}
 use Rattle.vx_isa.specs.Operations.{same_unit}
-use Rattle.vx_machine.specs.Items.{item_of, unit_of_item, is_observable_item, writes_general_op}
-use Rattle.vx_machine.specs.Room.{home_of}
+use Rattle.vx_room.specs.Items.{item_of, unit_of_item, is_observable_item, writes_general_op}
+use Rattle.vx_room.specs.Room.{home_of}
 use Rattle.vx_linear.specs.Writers.{writer}
 use Rattle.vx_dep.specs.Delays.{reads_of, writes_of, latency_of}
 use Rattle.vx_dep.specs.Compensation.{greatest}

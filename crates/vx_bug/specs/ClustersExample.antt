@@ -10,7 +10,7 @@ use Rattle.vx_flow.specs.declared.trace.Join.{Join}
 use Rattle.vx_flow.specs.declared.trace.Trace.{Trace}
 use Rattle.vx_flow.specs.declared.trace.Homes.{Homes}
 use Rattle.vx_isa.specs.Numbers.{Numbers, narrow}
-use Rattle.vx_machine.specs.Room.{home_of}
+use Rattle.vx_room.specs.Room.{home_of}
 use Rattle.vx_bug.specs.Clusters.{Books, listed, at_first, books_after, estimate_of}
 use Rattle.vx_bug.specs.Copies.{with_copies}
 

@@ -4,7 +4,7 @@ use Rattle.std.specs.Prelude.{◌≡◌, ◌<◌, ◌≤◌, ℕ, Bool, true, fa
 use Rattle.vx_flow.specs.declared.trace.TraceOp.{TraceOp}
 use Rattle.vx_flow.specs.declared.trace.Trace.{Trace}
 use Rattle.vx_isa.specs.Numbers.{Numbers, IsMachine}
-use Rattle.vx_machine.specs.Items.{item_of, unit_of_item}
+use Rattle.vx_room.specs.Items.{item_of, unit_of_item}
 use Rattle.vx_dep.specs.Delays.{reads_of}
 use Rattle.vx_dep.specs.Compensation.{greatest}
 use Rattle.vx_bug.specs.Clusters.{Books, available, is_free, cycle_of}

@@ -6,8 +6,8 @@ use Rattle.vx_flow.specs.declared.trace.TraceOp.TheVariants.{Plain}
 use Rattle.vx_flow.specs.declared.trace.Trace.{Trace}
 use Rattle.vx_flow.specs.declared.trace.Homes.{Homes}
 use Rattle.vx_isa.specs.Numbers.{Numbers}
-use Rattle.vx_machine.specs.Items.{item_of}
-use Rattle.vx_machine.specs.Room.{home_of, has_room}
+use Rattle.vx_room.specs.Items.{item_of}
+use Rattle.vx_room.specs.Room.{home_of, has_room}
 use Rattle.vx_bug.specs.declared.clusters.Clusters.{Clusters}
 use Rattle.vx_bug.specs.Copies.{copy_of}
 use Rattle.vx_bug.specs.Laying.{with_homes_of_copies}

@@ -23,7 +23,8 @@ use std::alloc::Global;
 use vx_base::listed::Listed;
 use vx_base::outcome::NoMemory;
 use vx_flow::trace::{Clustered, Homes, Trace};
-use vx_machine::{Machine, room_alone_law};
+use vx_machine::Machine;
+use vx_room::room_alone_law;
 
 /// The turns of all operations: the order in which they come, and by their places what each takes.
 #[derive(Drop)]

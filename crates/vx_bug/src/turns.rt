@@ -15,7 +15,7 @@ use vx_base::outcome::NoMemory;
 use vx_flow::graph::Value;
 use vx_flow::trace::{Trace, TraceOp};
 use vx_machine::Machine;
-use vx_machine::items::Item;
+use vx_room::items::Item;
 
 /// An operation of a trace whose turn it is.
 #[derive(Drop)]
@@ -169,7 +169,7 @@ pub(crate) fn take(
 {
     let item = Item::of_trace(turn.op);
     let issued = narrowed(cycle)?;
-    let estimate = later(issued, turn.machine.latency_of_item(&item))?;
+    let estimate = later(issued, item.latency(&turn.machine))?;
     let booking = Booking {
         place: turn.place,
         cluster,

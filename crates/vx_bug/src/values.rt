@@ -14,7 +14,7 @@ use vx_dep::traits::read;
 use vx_flow::graph::{Op, Value};
 use vx_flow::operands::Reads;
 use vx_flow::trace::TraceOp;
-use vx_machine::items::Item;
+use vx_room::items::Item;
 
 /// The values that an operation reads.
 #[tactic(auto, using(crate::proofs::Named::reads_by))]

@@ -3,7 +3,7 @@
 ghost use Rattle.std.specs.Prelude.{◌≡◌, ◌++◌, ◌∷◌, ◌+◌, ◌-◌, [], IfOk, length};
 ghost use Rattle.vx_flow.specs.Effects.{writes};
 ghost use Rattle.vx_isa.specs.declared.operation.Operation.TheVariants.{Goto};
-ghost use Rattle.vx_machine.specs.Items.{latency_of_op};
+ghost use Rattle.vx_room.specs.Items.{latency_of_op};
 ghost use Rattle.vx_mixed.specs.LaidSettled.{laid_reads, laid_writes};
 ghost use Rattle.vx_target.specs.Target.{carried_items, goes_beside, plan_word, plan_words, landing_words, choice_words, slotted, before, behind, if_any, leads, slots_in_flight, with_goto};
 ghost use Rattle.vx_target.specs.Placed.{item_landings, words_of};
@@ -22,9 +22,9 @@ use vx_flow::graph::{Op, Value};
 use vx_isa::operation::Operation;
 use vx_isa::program::Word;
 use vx_machine::fits;
-use vx_machine::items::Item;
 use vx_mixed::layout::Laid;
 use vx_regs::touches::{read_by, written, written_by};
+use vx_room::items::Item;
 use vx_slots::numbers::MOST_NAMES;
 use vx_slots::program::{SplitLanding, Whole, start};
 use vx_slots::registers::{branch_of, is_slotted, once, slotted};
@@ -38,10 +38,7 @@ fn slot_in_flight(whole: &Whole, function: u32, op: &Op) -> u32
     match written(op) {
         Some(value) => {
             if is_slotted(whole, function, value) {
-                whole
-                    .machine
-                    .latency_of_item(&Item::Plain(*op))
-                    .saturating_sub(1)
+                Item::Plain(*op).latency(whole.machine).saturating_sub(1)
             } else {
                 0
             }

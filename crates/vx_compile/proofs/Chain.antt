@@ -21,7 +21,7 @@ use Rattle.vx_isa.specs.Numbers.{Numbers, IsMachine}
 use Rattle.vx_isa.specs.Paths.{PathStrict}
 use Rattle.vx_isa.proofs.IssuingMachine.{issuing_machine_own}
 use Rattle.vx_lower.specs.FlowOf.{FlowOf, AreNumbers}
-use Rattle.vx_machine.specs.Items.{latency_of_op}
+use Rattle.vx_room.specs.Items.{latency_of_op}
 use Rattle.vx_mixed.specs.declared.mixed.MixedGraph.{MixedGraph}
 use Rattle.vx_mixed.specs.declared.layout.VWords.{VWords}
 use Rattle.vx_motion.specs.Context.{EachOfGraph, BothStep, HaveGlobalsFirst}

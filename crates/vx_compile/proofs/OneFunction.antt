@@ -18,9 +18,9 @@ use Rattle.vx_flow.specs.Sound.{Sound, HasExit}
 use Rattle.vx_flow.proofs.SoundLaw.{sound_is}
 use Rattle.vx_isa.proofs.Ranges.{ranges}
 use Rattle.vx_isa.specs.Numbers.{Numbers, IsMachine}
-use Rattle.vx_machine.specs.declared.items.ClusteredItem.{ClusteredItem}
-use Rattle.vx_machine.specs.Items.{latency_of_op}
-use Rattle.vx_machine.specs.Room.{has_room}
+use Rattle.vx_room.specs.declared.items.ClusteredItem.{ClusteredItem}
+use Rattle.vx_room.specs.Items.{latency_of_op}
+use Rattle.vx_room.specs.Room.{has_room}
 use Rattle.vx_mixed.specs.declared.region.Item.{Item}
 use Rattle.vx_mixed.specs.declared.region.Item.TheVariants.{Plain as PlainItem, Split as SplitItem}
 use Rattle.vx_mixed.specs.declared.mixed.MixedGraph.{MixedGraph}

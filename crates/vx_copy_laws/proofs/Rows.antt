@@ -3,7 +3,7 @@ use Rattle.std.proofs.Common.{◌≡◌, ◌<◌, inl, ⊎_elim, refl, sym, arit
 use Rattle.vx_flow.specs.declared.graph.Operand.TheVariants.{Number}
 use Rattle.vx_flow.specs.declared.trace.TraceOp.{TraceOp}
 use Rattle.vx_flow.specs.Effects.{IsIn}
-use Rattle.vx_machine.specs.Room.{home_of}
+use Rattle.vx_room.specs.Room.{home_of}
 use Rattle.vx_dep.specs.Delays.{writes_of}
 use Rattle.vx_bug.specs.ClustersExample.{sum, uses, crossed, joined_at}
 use Rattle.vx_copy_laws.specs.CopyStands.{ReadsAway, WriterBetween, IsServed}

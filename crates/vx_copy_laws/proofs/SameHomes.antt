@@ -11,7 +11,7 @@ use Rattle.vx_flow.specs.declared.trace.Trace.{Trace}
 use Rattle.vx_flow.specs.declared.trace.Clustered.{Clustered}
 use Rattle.vx_flow.specs.Effects.{IsIn, is_unary, value_in}
 use Rattle.vx_flow.specs.Operands.{with_value_in}
-use Rattle.vx_machine.specs.Room.{home_of}
+use Rattle.vx_room.specs.Room.{home_of}
 use Rattle.vx_dep.specs.Delays.{Stands, reads_of}
 use Rattle.vx_bug.specs.Clusters.{general_reads}
 use Rattle.vx_bug.specs.Copies.{copy_of, is_away, reads_copies, renamed_op, here}

@@ -5,7 +5,7 @@ use Rattle.vx_flow.specs.declared.graph.Op.TheVariants.{Across}
 use Rattle.vx_flow.specs.declared.trace.TraceOp.{TraceOp}
 use Rattle.vx_flow.specs.declared.trace.TraceOp.TheVariants.{Plain}
 use Rattle.vx_flow.specs.declared.trace.Trace.{Trace}
-use Rattle.vx_machine.specs.Room.{home_of}
+use Rattle.vx_room.specs.Room.{home_of}
 use Rattle.vx_bug.specs.Copies.{with_copies}
 use Rattle.vx_bug.specs.ClustersExample.{sum, trace_of, uses, crossed, joined_at}
 use Rattle.vx_copy_laws.specs.CopyStands.{CopyStands}

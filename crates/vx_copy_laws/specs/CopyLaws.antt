@@ -4,7 +4,7 @@ use Rattle.vx_flow.specs.declared.trace.Trace.{Trace}
 use Rattle.vx_flow.specs.declared.trace.Homes.{Homes}
 use Rattle.vx_flow.specs.declared.trace.Clustered.{Clustered}
 use Rattle.vx_isa.specs.Numbers.{Numbers}
-use Rattle.vx_machine.specs.Room.{home_of}
+use Rattle.vx_room.specs.Room.{home_of}
 use Rattle.vx_bug.specs.declared.clusters.Clusters.{Clusters}
 use Rattle.vx_bug.specs.Copies.{with_copies}
 use Rattle.vx_bug.specs.Assigned.{Assigned}

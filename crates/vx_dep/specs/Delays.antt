@@ -8,7 +8,7 @@ use Rattle.vx_flow.specs.declared.trace.Join.{Join}
 use Rattle.vx_flow.specs.declared.trace.Trace.{Trace}
 use Rattle.vx_flow.specs.Effects.{IsIn, reads, writes}
 use Rattle.vx_isa.specs.Numbers.{Numbers}
-use Rattle.vx_machine.specs.Items.{item_of, latency_of_item, is_observable_item, is_split}
+use Rattle.vx_room.specs.Items.{item_of, latency_of_item, is_observable_item, is_split}
 use Rattle.vx_linear.specs.declared.form.Form.{Form}
 use Rattle.vx_linear.specs.Forms.{NeverSame}
 use Rattle.vx_linear.specs.Followed.{forms_of}

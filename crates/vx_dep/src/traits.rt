@@ -11,7 +11,7 @@ use vx_flow::graph::{Op, Value};
 use vx_flow::operands::{Reads, read_by, reads_three, written_by};
 use vx_flow::trace::TraceOp;
 use vx_machine::Machine;
-use vx_machine::items::Item;
+use vx_room::items::Item;
 
 /// What delays ask of an operation.
 #[derive(Clone, Copy)]
@@ -51,7 +51,7 @@ pub(crate) fn traits_of(machine: &Machine, op: &TraceOp) -> Traits
         alone: item.is_split() && machine.branches() == 1,
         is_access: is_load(op) || is_store(op),
         is_fixed: item.is_observable() || item.is_split(),
-        latency: machine.latency_of_item(&item),
+        latency: item.latency(machine),
     }
 }
 

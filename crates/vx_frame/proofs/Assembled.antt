@@ -10,7 +10,7 @@ use Rattle.vx_flow.specs.Sound.{SoundFlow, is_sound_flow}
 use Rattle.vx_flow.proofs.SoundFlowLaw.{told}
 use Rattle.vx_isa.specs.declared.program.WordProgram.{WordProgram}
 use Rattle.vx_isa.specs.Numbers.{Numbers}
-use Rattle.vx_machine.specs.Items.{latency_of_op}
+use Rattle.vx_room.specs.Items.{latency_of_op}
 use Rattle.vx_mixed.specs.declared.layout.VWords.{VWords}
 use Rattle.vx_layout.specs.Brief.{IsBriefLayout}
 use Rattle.vx_mixed.specs.LaidSettled.{SettledLayout, home_in}

@@ -5,8 +5,8 @@ use vx_base::outcome::NoMemory;
 use vx_flow::trace::TraceOp;
 use vx_isa::operation::UnitKind;
 use vx_machine::Machine;
-use vx_machine::items::Item;
 use vx_page::facts::OpFact;
+use vx_room::items::Item;
 
 /// What operations take of one cluster in one word.
 #[derive(Clone, Copy)]

@@ -6,11 +6,11 @@ use vx_base::outcome::NoMemory;
 use vx_dep::copies::word_at;
 use vx_flow::graph::{BlockId, Edge};
 use vx_machine::Machine;
-use vx_machine::items::Item;
 use vx_page::notes::{BlockNote, edges_of, note_of};
 use vx_page::page::small;
 use vx_page::view::TraceView;
 use vx_profile::counts::Counts;
+use vx_room::items::Item;
 
 /// The edge on which the younger made end of an edge was made, if it has one.
 fn made_edge(notes: &[BlockNote], edge: Edge) -> Option<Edge> {
@@ -117,7 +117,7 @@ fn last_drain(machine: &Machine, trace: &TraceView) -> u32 {
     let mut landed = trace.placed.length;
     for (place, op) in ops.iter().enumerate() {
         let word = word_at(words, small(place));
-        let latency = machine.latency_of_item(&Item::of_trace(op));
+        let latency = Item::of_trace(op).latency(machine);
         landed = landed.max(word.saturating_add(latency));
     }
     landed.saturating_sub(trace.placed.length)

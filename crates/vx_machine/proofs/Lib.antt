@@ -3,11 +3,5 @@ mod Ranges
 mod ReadsLaw
 mod DescriptionRows
 mod MarksLaw
-mod Counts
+pub mod Counts
 mod Ports
-pub mod Latencies
-mod RoomSteps
-mod RoomLaw
-mod RoomAlone
-mod FitsByRoom
-mod RoomRows

@@ -1,6 +1,2 @@
 pub mod Descriptions
 pub mod Marks
-pub mod Items
-pub mod Room
-pub mod Left
-pub mod Needs

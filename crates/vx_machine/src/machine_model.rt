@@ -5,9 +5,7 @@ ghost use Rattle.std.specs.Prelude.{◌≡◌, ◌≤◌};
 ghost use Rattle.vx_isa.specs.Numbers.{IsMachine, vex};
 ghost use Rattle.vx_isa.specs.Machine.{branches_of};
 ghost use Rattle.vx_isa.specs.Operations.{latency_of_code, latency_of};
-ghost use Rattle.vx_machine.specs.Items.{latency_of_item};
 
-use crate::items::{Item, latency_of_op};
 use std::marker::Model;
 use vx_base::arithmetic::Code;
 use vx_isa::operation::Operation;
@@ -288,18 +286,8 @@ impl Machine {
         }
     }
 
-    /// The cycles until the result of an item has landed at the latest; 0 where it has none.
-    pub fn latency_of_item(&self, item: &Item) -> u32
-        ensures { result ≡ latency_of_item self.now item.now }
-    {
-        match item {
-            Item::Plain(op) => latency_of_op(self, op),
-            Item::Split { .. } => 0,
-        }
-    }
-
     /// The cycles until the result of a computation has landed at the latest.
-    pub(crate) fn latency_of_code(&self, code: Code) -> u32
+    pub fn latency_of_code(&self, code: Code) -> u32
         ensures { result ≡ latency_of_code self.now code }
     {
         match code {

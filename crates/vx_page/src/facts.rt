@@ -10,7 +10,7 @@ use vx_dep::{Deps, Earlier, pairs};
 use vx_flow::graph::{BlockId, Op};
 use vx_flow::trace::TraceOp;
 use vx_machine::Machine;
-use vx_machine::items::Item;
+use vx_room::items::Item;
 
 /// What an operation passed: the first of it in the order of the trace, and how many.
 #[derive(Clone, Copy)]
@@ -232,7 +232,7 @@ fn fact_at(
         block,
         height: deps.height(number),
         depth: wait.depth,
-        latency: machine.latency_of_item(&Item::of_trace(op)),
+        latency: Item::of_trace(op).latency(machine),
         ready: wait.ready,
         waits_for: wait.on,
         above_split,

@@ -15,7 +15,7 @@ use Rattle.vx_flow.proofs.IndexSteps.{get_below}
 use Rattle.vx_flow.proofs.Members.{in_right, in_either}
 use Rattle.vx_flow.proofs.SoundLists.{all_in}
 use Rattle.vx_flow.proofs.SoundLaw.{sound_is}
-use Rattle.vx_machine.specs.Items.{latency_of_op}
+use Rattle.vx_room.specs.Items.{latency_of_op}
 use Rattle.vx_mixed.specs.declared.region.Origin.{Origin}
 use Rattle.vx_mixed.specs.declared.mixed.MixedGraph.{MixedGraph}
 use Rattle.vx_mixed.specs.FromGraph.{FromGraph, is_some_of, is_bound, OfGraph}

@@ -7,7 +7,7 @@ use Rattle.vx_flow.specs.declared.trace.Clustered.{Clustered}
 use Rattle.vx_flow.specs.declared.trace.Homes.{Homes}
 use Rattle.vx_flow.specs.declared.trace.Placed.{Placed}
 use Rattle.vx_flow.specs.Walk.{numbers}
-use Rattle.vx_machine.specs.Room.{has_room}
+use Rattle.vx_room.specs.Room.{has_room}
 use Rattle.vx_isa.specs.Numbers.{Numbers}
 use Rattle.vx_dep.specs.declared.mode.Mode.{Mode}
 use Rattle.vx_dep.specs.declared.mode.Mode.TheVariants.{Free, Barred}

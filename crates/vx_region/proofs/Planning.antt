@@ -20,7 +20,7 @@ use Rattle.vx_flow.specs.Sound.{targets_of}
 use Rattle.vx_flow.specs.Walk.{edge, numbers}
 use Rattle.vx_flow.proofs.Members.{in_left, in_right, in_either}
 use Rattle.vx_isa.specs.Numbers.{Numbers, is_machine}
-use Rattle.vx_machine.specs.Items.{latency_of_op}
+use Rattle.vx_room.specs.Items.{latency_of_op}
 use Rattle.vx_mixed.specs.declared.region.Item.TheVariants.{Split}
 use Rattle.vx_mixed.specs.declared.region.Made.{Made}
 use Rattle.vx_mixed.specs.declared.mixed.MixedGraph.{MixedGraph}
@@ -52,7 +52,7 @@ use Rattle.vx_region.proofs.Bare.{bare, bare_items, bare_nth, bare_many, bare_la
 use Rattle.vx_region.proofs.PlainItems.{plain_many, nth_at, some_at}
 use Rattle.vx_region.proofs.TableMet.{the_table_is_met}
 use Rattle.vx_region.proofs.BelowJoins.{Below, below_join}
-use Rattle.vx_machine.proofs.Latencies.{takes_time}
+use Rattle.vx_room.proofs.Latencies.{takes_time}
 use Rattle.vx_region.proofs.Greatest.{all_below, first_below, reached, drained}
 use Rattle.vx_region.proofs.MadeCopies.{Copy, made_all, Distinct, made_append, distinct_append, on_edge_is, OfCopy, of_copy, made_once}
 use Rattle.vx_region.proofs.CopiedPlaces.{copies_are, op_at, freed_by, marked_op}

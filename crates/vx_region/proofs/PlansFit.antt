@@ -18,7 +18,7 @@ use Rattle.vx_flow.specs.Effects.{IsIn, dismissed, reads, writes}
 use Rattle.vx_flow.specs.Sound.{arrays_of, Sound}
 use Rattle.vx_flow.proofs.SoundLaw.{sound_is}
 use Rattle.vx_isa.specs.Numbers.{Numbers, IsMachine}
-use Rattle.vx_machine.specs.Items.{latency_of_op}
+use Rattle.vx_room.specs.Items.{latency_of_op}
 use Rattle.vx_mixed.specs.declared.region.Item.{Item}
 use Rattle.vx_mixed.specs.declared.region.Item.TheVariants.{Plain, Split}
 use Rattle.vx_mixed.specs.declared.region.Made.{Made}

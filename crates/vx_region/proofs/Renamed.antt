@@ -9,7 +9,7 @@ use Rattle.vx_flow.specs.declared.trace.TraceOp.{TraceOp}
 use Rattle.vx_flow.specs.declared.trace.TraceOp.TheVariants.{Plain, Split}
 use Rattle.vx_flow.specs.Effects.{IsIn, is_unary, value_in}
 use Rattle.vx_flow.specs.Operands.{with_value_in}
-use Rattle.vx_machine.specs.Items.{writes_general_op}
+use Rattle.vx_room.specs.Items.{writes_general_op}
 use Rattle.vx_dep.specs.Delays.{writes_of}
 use Rattle.vx_bug.specs.CanAssign.{bound_writes}
 use Rattle.vx_bug.specs.Clusters.{general_reads, general_writes, is_bound, is_across}

@@ -11,11 +11,11 @@ use Rattle.vx_isa.specs.Numbers.{Numbers, is_machine}
 use Rattle.vx_isa.specs.Operations.{same_unit}
 use Rattle.vx_isa.specs.Fits.{all_below}
 use Rattle.vx_isa.proofs.Lists.{count_by-cons}
-use Rattle.vx_machine.specs.declared.items.Item.{Item}
-use Rattle.vx_machine.specs.declared.items.Item.TheVariants.{Plain, Split}
-use Rattle.vx_machine.specs.declared.items.ClusteredItem.{ClusteredItem}
-use Rattle.vx_machine.specs.Items.{unit_of_item, is_observable_item, is_split, general_reads, takes_port, writes_general}
-use Rattle.vx_machine.specs.Room.{source_by, read_clusters, is_at, count_at, needs, reads_at, count_in, has_room_at, stands_well, is_cluster, stand_well, has_room}
+use Rattle.vx_room.specs.declared.items.Item.{Item}
+use Rattle.vx_room.specs.declared.items.Item.TheVariants.{Plain, Split}
+use Rattle.vx_room.specs.declared.items.ClusteredItem.{ClusteredItem}
+use Rattle.vx_room.specs.Items.{unit_of_item, is_observable_item, is_split, general_reads, takes_port, writes_general}
+use Rattle.vx_room.specs.Room.{source_by, read_clusters, is_at, count_at, needs, reads_at, count_in, has_room_at, stands_well, is_cluster, stand_well, has_room}
 
 -- the item with every load dismissible
 abbrev pub all_dismissed : Item → Item

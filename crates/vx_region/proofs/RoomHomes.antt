@@ -8,9 +8,9 @@ use Rattle.vx_flow.specs.Effects.{IsIn}
 use Rattle.vx_isa.specs.declared.operation.UnitKind.TheVariants.{Alu, Multiply, Memory, Copies}
 use Rattle.vx_isa.specs.Numbers.{Numbers, is_machine}
 use Rattle.vx_isa.specs.Fits.{all_below}
-use Rattle.vx_machine.specs.declared.items.Item.TheVariants.{Plain as PlainItem}
-use Rattle.vx_machine.specs.Items.{is_observable_item, is_split, general_reads, takes_port}
-use Rattle.vx_machine.specs.Room.{source_by, read_clusters, is_at, count_at, needs, writes_at, count_in, stands_well, is_cluster, has_room}
+use Rattle.vx_room.specs.declared.items.Item.TheVariants.{Plain as PlainItem}
+use Rattle.vx_room.specs.Items.{is_observable_item, is_split, general_reads, takes_port}
+use Rattle.vx_room.specs.Room.{source_by, read_clusters, is_at, count_at, needs, writes_at, count_in, stands_well, is_cluster, has_room}
 use Rattle.vx_mixed.specs.declared.region.Item.{Item}
 use Rattle.vx_mixed.specs.declared.region.Item.TheVariants.{Plain, Split}
 use Rattle.vx_motion.specs.Scheduled.{IsRoom}

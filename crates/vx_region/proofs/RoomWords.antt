@@ -11,9 +11,9 @@ use Rattle.vx_flow.specs.declared.trace.Homes.{Homes}
 use Rattle.vx_flow.specs.Effects.{dismissed}
 use Rattle.vx_flow.specs.Walk.{numbers}
 use Rattle.vx_isa.specs.Numbers.{Numbers}
-use Rattle.vx_machine.specs.declared.items.Item.TheVariants.{Plain as PlainItem}
-use Rattle.vx_machine.specs.declared.items.ClusteredItem.{ClusteredItem}
-use Rattle.vx_machine.specs.Room.{has_room}
+use Rattle.vx_room.specs.declared.items.Item.TheVariants.{Plain as PlainItem}
+use Rattle.vx_room.specs.declared.items.ClusteredItem.{ClusteredItem}
+use Rattle.vx_room.specs.Room.{has_room}
 use Rattle.vx_mixed.specs.declared.region.Item.{Item}
 use Rattle.vx_mixed.specs.declared.region.Item.TheVariants.{Plain, Split}
 use Rattle.vx_mixed.specs.Next.{InWord, freed, placed, in_word}

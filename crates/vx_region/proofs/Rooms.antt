@@ -5,7 +5,7 @@ use Rattle.vx_flow.specs.declared.trace.Clustered.{Clustered}
 use Rattle.vx_flow.specs.declared.trace.Homes.{Homes}
 use Rattle.vx_flow.specs.declared.trace.Trace.{Trace}
 use Rattle.vx_isa.specs.Numbers.{Numbers}
-use Rattle.vx_machine.specs.Room.{has_room}
+use Rattle.vx_room.specs.Room.{has_room}
 use Rattle.vx_mixed.specs.declared.mixed.MixedGraph.{MixedGraph}
 use Rattle.vx_mixed.specs.TraceOf.{IsTraceOf}
 use Rattle.vx_bug.specs.declared.clusters.Clusters.{Clusters}

@@ -8,7 +8,7 @@ use Rattle.vx_flow.specs.declared.trace.TraceOp.TheVariants.{Plain as TracePlain
 use Rattle.vx_flow.specs.declared.trace.Placed.{Placed}
 use Rattle.vx_flow.specs.Effects.{IsIn}
 use Rattle.vx_isa.specs.Numbers.{Numbers, IsMachine}
-use Rattle.vx_machine.proofs.Latencies.{few_cycles}
+use Rattle.vx_room.proofs.Latencies.{few_cycles}
 use Rattle.vx_layout.specs.Brief.{most_drain}
 use Rattle.vx_dep.specs.Delays.{latency_of}
 use Rattle.vx_dep.specs.Compensation.{greatest, left_at, all_left_at, drain_at}

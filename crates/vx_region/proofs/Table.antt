@@ -8,7 +8,7 @@ use Rattle.vx_flow.specs.declared.trace.Trace.{Trace}
 use Rattle.vx_flow.specs.Effects.{IsIn}
 use Rattle.vx_flow.proofs.SoundLists.{any_in, or_left, or_right}
 use Rattle.vx_isa.specs.Numbers.{Numbers}
-use Rattle.vx_machine.specs.Items.{latency_of_op}
+use Rattle.vx_room.specs.Items.{latency_of_op}
 use Rattle.vx_mixed.specs.declared.region.Item.{Item}
 use Rattle.vx_mixed.specs.Live.{item_reads, item_writes}
 use Rattle.vx_motion.specs.Trace.{nth}

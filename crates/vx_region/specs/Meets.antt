@@ -6,7 +6,7 @@ use Rattle.vx_flow.specs.declared.trace.Homes.{Homes}
 use Rattle.vx_flow.specs.Apart.{StandApart}
 use Rattle.vx_flow.specs.Effects.{Setting, IsIn}
 use Rattle.vx_isa.specs.Numbers.{Numbers}
-use Rattle.vx_machine.specs.Items.{latency_of_op}
+use Rattle.vx_room.specs.Items.{latency_of_op}
 use Rattle.vx_motion.specs.Rows.{Meets, NeverApart}
 use Rattle.vx_mixed.specs.Way.{item_latency}
 use Rattle.vx_motion.specs.Compensation.{live_of, is_join_place}

@@ -10,7 +10,7 @@ use Rattle.vx_flow.specs.Apart.{StandApart}
 use Rattle.vx_flow.specs.Effects.{State, Setting, IsIn, effect}
 use Rattle.vx_flow.specs.Meaning.{Hop, Arrives, and_then}
 use Rattle.vx_isa.specs.Numbers.{Numbers}
-use Rattle.vx_machine.specs.Items.{latency_of_op}
+use Rattle.vx_room.specs.Items.{latency_of_op}
 use Rattle.vx_mixed.specs.declared.region.Item.{Item}
 use Rattle.vx_mixed.specs.declared.region.Made.{Made}
 use Rattle.vx_mixed.specs.declared.mixed.MixedGraph.{MixedGraph}

@@ -2,7 +2,7 @@
 use Rattle.std.specs.Prelude.{ℕ, List}
 use Rattle.vx_flow.specs.declared.graph.Graph.{Graph}
 use Rattle.vx_isa.specs.Numbers.{Numbers}
-use Rattle.vx_machine.specs.Items.{latency_of_op}
+use Rattle.vx_room.specs.Items.{latency_of_op}
 use Rattle.vx_mixed.specs.declared.mixed.MixedGraph.{MixedGraph}
 use Rattle.vx_motion.specs.Compensation.{Compensated}
 use Rattle.vx_mixed.specs.declared.replacement.Replacement.{Replacement}

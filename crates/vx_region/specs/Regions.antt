@@ -11,10 +11,10 @@ use Rattle.vx_flow.specs.Effects.{IsIn}
 use Rattle.vx_flow.specs.Sound.{is_sound}
 use Rattle.vx_flow.specs.Operands.{binds}
 use Rattle.vx_isa.specs.Numbers.{Numbers, is_machine}
-use Rattle.vx_machine.specs.declared.items.Item.TheVariants.{Plain as PlainItem, Split as SplitItem}
-use Rattle.vx_machine.specs.declared.items.ClusteredItem.{ClusteredItem}
-use Rattle.vx_machine.specs.Items.{latency_of_op}
-use Rattle.vx_machine.specs.Room.{has_room}
+use Rattle.vx_room.specs.declared.items.Item.TheVariants.{Plain as PlainItem, Split as SplitItem}
+use Rattle.vx_room.specs.declared.items.ClusteredItem.{ClusteredItem}
+use Rattle.vx_room.specs.Items.{latency_of_op}
+use Rattle.vx_room.specs.Room.{has_room}
 use Rattle.vx_mixed.specs.declared.mixed.MixedGraph.{MixedGraph}
 use Rattle.vx_mixed.specs.declared.region.Item.{Item}
 use Rattle.vx_mixed.specs.declared.region.Item.TheVariants.{Plain, Split}

@@ -5,7 +5,7 @@ ghost use Rattle.vx_region.specs.AtHome.{AssignedStands};
 ghost use Rattle.vx_region.specs.Beside.{CopiesLaw, NothingNew};
 ghost use Rattle.vx_region.specs.Ways.{ClusteredLaw, FitsLaw, ClusteredFitsLaw, AssignedFitsLaw, AssignedTraceFits};
 
-use vx_machine::room_alone_law;
+use vx_room::room_alone_law;
 
 /// A trace and the trace with copies, run in order beside each other.
 pub fn copies_keep_the_trace()

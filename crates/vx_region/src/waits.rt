@@ -6,7 +6,7 @@ ghost use Rattle.vx_dep.specs.Compensation.{word_at, greatest, left_at, all_left
 use vx_dep::copies::{EdgeCopies, word_at};
 use vx_flow::trace::{Placed, TraceOp};
 use vx_machine::Machine;
-use vx_machine::items::Item;
+use vx_room::items::Item;
 
 /// The empty cycles behind a split.
 pub(crate) fn split_drain(machine: &Machine, placed: &Placed, split: &EdgeCopies) -> u32
@@ -59,7 +59,7 @@ fn left_at(machine: &Machine, end: u64, word: u32, op: &TraceOp) -> u32
     if is_far(end, word) {
         return 0;
     }
-    let latency = machine.latency_of_item(&Item::of_trace(op));
+    let latency = Item::of_trace(op).latency(machine);
     if (word as u64) < end {
         left_behind(latency, end - word as u64)
     } else {

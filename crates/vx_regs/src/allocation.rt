@@ -3,7 +3,7 @@
 
 ghost use Rattle.std.specs.Prelude.{◌≡◌, ◌<◌, ◌++◌, ℕ, IfOk, Some, length, map, slice_get};
 ghost use Rattle.std.specs.List.Sorted.{IsNonDecreasingBy, IsPermutation};
-ghost use Rattle.vx_machine.specs.Items.{latency_of_op};
+ghost use Rattle.vx_room.specs.Items.{latency_of_op};
 ghost use Rattle.vx_regs.specs.BusyPlaces.{AreHulls};
 ghost use Rattle.vx_mixed.specs.LaidSettled.{LeadsTo, bank_in, home_in};
 ghost use Rattle.vx_mixed.specs.declared.layout.VirtualWord.{VirtualWord};
@@ -22,8 +22,9 @@ use vx_base::listed::Listed;
 use vx_base::outcome::NoMemory;
 use vx_base::sizes::{number_of, sum};
 use vx_flow::graph::{Bank, Value};
-use vx_machine::{Machine, home_of};
+use vx_machine::Machine;
 use vx_mixed::layout::VWords;
+use vx_room::home_of;
 
 /// The bank of a value of a layout.
 fn bank_in(layout: &VWords, value: Value) -> Option<Bank>

@@ -4,7 +4,7 @@
 
 ghost use Rattle.std.specs.Prelude.{◌≡◌, ◌<◌, ◌+◌, ◌-◌, ◌++◌, ◌∷◌, [], ℕ, OnOk, IfOk, Some, length, slice_get};
 ghost use Rattle.std.specs.List.{flat_map};
-ghost use Rattle.vx_machine.specs.Items.{latency_of_op};
+ghost use Rattle.vx_room.specs.Items.{latency_of_op};
 ghost use Rattle.vx_mixed.specs.LaidSettled.{LeadsTo, cycles_of};
 ghost use Rattle.vx_mixed.specs.declared.layout.VirtualWord.{VirtualWord as AWord};
 ghost use Rattle.vx_regs.specs.BusyPlaces.{AmongAt, AreHulls, InFlight, InFlights, LiveAmong, LiveBelow, LiveNear, NamedBelow, OneBelow, OpWrote, WordWrote, Wrote, WroteBelow, leads_list, nodes_near, split_places};
@@ -23,8 +23,8 @@ use vx_base::sizes::{number_of, sum};
 use vx_flow::graph::{Op, Value};
 use vx_flow::live_rows::Live;
 use vx_machine::Machine;
-use vx_machine::items::Item;
 use vx_mixed::layout::{Laid, VWords, VirtualWord};
+use vx_room::items::Item;
 
 #[tactic(auto, using(crate::proofs::BusyNotes::values_none, crate::proofs::BusyNotes::values_more))]
 fn note_values(hulls: &mut Vec<Option<Hull>>, values: &[Value], place: u32) -> Result<(), NoMemory>
@@ -303,7 +303,7 @@ fn note_op(
     match written(op) {
         None => Ok(()),
         Some(value) => {
-            let left = machine.latency_of_item(&Item::Plain(*op)).saturating_sub(1);
+            let left = Item::Plain(*op).latency(machine).saturating_sub(1);
             note_flights(alloc, hulls, words, value, targets, left)
         }
     }

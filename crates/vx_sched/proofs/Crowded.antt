@@ -12,10 +12,10 @@ use Rattle.vx_isa.specs.Operations.{same_unit}
 use Rattle.vx_isa.specs.Fits.{all_below}
 use Rattle.vx_isa.proofs.Lists.{count_by-append, count_by-cons}
 use Rattle.vx_isa.proofs.FitsLaw.{Six, six_parts, all_below-at}
-use Rattle.vx_machine.specs.declared.items.ClusteredItem.{ClusteredItem}
-use Rattle.vx_machine.specs.declared.items.Item.{Item}
-use Rattle.vx_machine.specs.Items.{unit_of_item, is_split, is_observable_item}
-use Rattle.vx_machine.specs.Room.{read_clusters, count_at, count_in, needs, reads_at, writes_at, has_room_at, stands_well, is_cluster, stand_well, has_room}
+use Rattle.vx_room.specs.declared.items.ClusteredItem.{ClusteredItem}
+use Rattle.vx_room.specs.declared.items.Item.{Item}
+use Rattle.vx_room.specs.Items.{unit_of_item, is_split, is_observable_item}
+use Rattle.vx_room.specs.Room.{read_clusters, count_at, count_in, needs, reads_at, writes_at, has_room_at, stands_well, is_cluster, stand_well, has_room}
 use Rattle.vx_sched.specs.Crowding.{slots_at, takes_all, is_crowded}
 
 -- one more item is one more of what it counts as

@@ -9,7 +9,7 @@ use Rattle.vx_flow.specs.declared.trace.TraceOp.TheVariants.{Plain, Split}
 use Rattle.vx_flow.specs.declared.trace.Clustered.{Clustered}
 use Rattle.vx_flow.specs.declared.trace.Homes.{Homes}
 use Rattle.vx_isa.specs.Numbers.{Numbers, vex}
-use Rattle.vx_machine.specs.Room.{has_room}
+use Rattle.vx_room.specs.Room.{has_room}
 use Rattle.vx_sched.specs.Placement.{comes_before, items_at, places_in, with_earlier, length_of}
 
 -- an `if` without `else`: two operations, the split, an operation, the join, two operations

@@ -7,10 +7,10 @@ use Rattle.vx_flow.specs.declared.trace.Clustered.{Clustered}
 use Rattle.vx_flow.specs.declared.trace.Homes.{Homes}
 use Rattle.vx_flow.specs.declared.trace.TraceOp.{TraceOp}
 use Rattle.vx_isa.specs.Numbers.{Numbers}
-use Rattle.vx_machine.specs.declared.items.ClusteredItem.{ClusteredItem}
-use Rattle.vx_machine.specs.declared.items.Item.{Item}
-use Rattle.vx_machine.specs.Items.{item_of}
-use Rattle.vx_machine.specs.Room.{has_room}
+use Rattle.vx_room.specs.declared.items.ClusteredItem.{ClusteredItem}
+use Rattle.vx_room.specs.declared.items.Item.{Item}
+use Rattle.vx_room.specs.Items.{item_of}
+use Rattle.vx_room.specs.Room.{has_room}
 use Rattle.vx_sched.specs.Placement.{item_there}
 use Rattle.vx_sched.specs.Filling.{word_in, AreWithout, row_of, IsFirstWith, Puts, IsItem}
 

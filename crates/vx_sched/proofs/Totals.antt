@@ -13,9 +13,9 @@ use Rattle.vx_isa.specs.Numbers.{Numbers, is_machine}
 use Rattle.vx_isa.specs.Fits.{all_below}
 use Rattle.vx_isa.proofs.Lists.{list_all-flat_map}
 use Rattle.vx_isa.proofs.FitsLaw.{six_parts, six_together, all_below-at, all_below-holds}
-use Rattle.vx_machine.specs.declared.items.ClusteredItem.{ClusteredItem}
-use Rattle.vx_machine.specs.Items.{is_split, is_observable_item}
-use Rattle.vx_machine.specs.Room.{read_clusters, is_at, count_at, count_in, needs, reads_at, writes_at, has_room_at, stands_well, is_cluster, stand_well, has_room}
+use Rattle.vx_room.specs.declared.items.ClusteredItem.{ClusteredItem}
+use Rattle.vx_room.specs.Items.{is_split, is_observable_item}
+use Rattle.vx_room.specs.Room.{read_clusters, is_at, count_at, count_in, needs, reads_at, writes_at, has_room_at, stands_well, is_cluster, stand_well, has_room}
 use Rattle.vx_sched.specs.Placement.{item_there, items_at}
 
 -- the first list holds no more of anything than the second

@@ -4,9 +4,9 @@ use Rattle.std.specs.Prelude.{◌||◌, ◌==◌, ℕ, Bool, false, nat_le, List
 use Rattle.vx_isa.specs.declared.operation.UnitKind.{UnitKind}
 use Rattle.vx_isa.specs.declared.operation.UnitKind.TheVariants.{Alu, Multiply, Memory, Copies, Control}
 use Rattle.vx_isa.specs.Numbers.{Numbers}
-use Rattle.vx_machine.specs.declared.items.ClusteredItem.{ClusteredItem}
-use Rattle.vx_machine.specs.Items.{unit_of_item}
-use Rattle.vx_machine.specs.Room.{count_at, count_in, needs}
+use Rattle.vx_room.specs.declared.items.ClusteredItem.{ClusteredItem}
+use Rattle.vx_room.specs.Items.{unit_of_item}
+use Rattle.vx_room.specs.Room.{count_at, count_in, needs}
 
 -- how many items stand on the cluster
 abbrev pub slots_at : ℕ → List ClusteredItem → ℕ

@@ -3,12 +3,12 @@
 
 ghost use Rattle.std.specs.Prelude.{◌≡◌};
 ghost use Rattle.vx_isa.specs.declared.operation.UnitKind.TheVariants.{Copies};
-ghost use Rattle.vx_machine.specs.Room.{count_at, count_in, needs};
+ghost use Rattle.vx_room.specs.Room.{count_at, count_in, needs};
 ghost use Rattle.vx_sched.specs.Crowding.{slots_at, takes_all, is_crowded};
 
 use vx_isa::operation::UnitKind;
 use vx_machine::Machine;
-use vx_machine::items::ClusteredItem;
+use vx_room::items::ClusteredItem;
 
 /// Whether a row has no room for an item, as can be told by counting alone. Where it is not crowded, it may still have none.
 pub(crate) fn is_crowded(machine: &Machine, row: &[ClusteredItem], item: ClusteredItem) -> bool

@@ -17,7 +17,7 @@ use vx_dep::Deps;
 use vx_flow::copies::copied_clustered;
 use vx_flow::trace::{Clustered, Homes, Placed};
 use vx_machine::Machine;
-use vx_machine::items::{ClusteredItem, Item};
+use vx_room::items::{ClusteredItem, Item};
 
 /// The words of the operations of a clustered trace, greater heights first, each in the first word that its delays allow
 /// and that has room for it beside those that come before it. There is one cluster for each operation, and each operation

@@ -1,7 +1,7 @@
 // The rows of items of the words that are filled: which word is the first with room for an item, and an item put there.
 
 ghost use Rattle.std.specs.Prelude.{◌≡◌, ◌<◌, ◌+◌, ◌++◌, ◌∷◌, [], ℕ, length, IfOk, true};
-ghost use Rattle.vx_machine.specs.Room.{has_room};
+ghost use Rattle.vx_room.specs.Room.{has_room};
 ghost use Rattle.vx_sched.specs.Filling.{row_of, IsFirstWith, Puts};
 
 use crate::full_rows::is_crowded;
@@ -9,8 +9,9 @@ use std::alloc::Global;
 use vx_base::listed::{Listed, with_item};
 use vx_base::outcome::NoMemory;
 use vx_flow::trace::Homes;
-use vx_machine::items::ClusteredItem;
-use vx_machine::{Machine, has_room};
+use vx_machine::Machine;
+use vx_room::has_room;
+use vx_room::items::ClusteredItem;
 
 /// The first word from a given one on that has room for an item beside its row. A word without a row is empty.
 pub(crate) fn first_word(

@@ -22,11 +22,11 @@ use Rattle.vx_isa.specs.declared.operation.UnitKind.TheVariants.{Alu, Multiply, 
 use Rattle.vx_isa.specs.Fits.{all_below}
 use Rattle.vx_isa.proofs.FitsLaw.{Six, six_parts, all_below-at}
 use Rattle.vx_isa.proofs.Lists.{count_by-append, count_by-cons}
-use Rattle.vx_machine.specs.declared.items.ClusteredItem.{ClusteredItem}
-use Rattle.vx_machine.specs.declared.items.Item.TheVariants.{Plain as PlainItem}
-use Rattle.vx_machine.specs.Items.{base_of, general_reads_of_op, takes_port, is_split, is_observable_item, latency_of_op}
+use Rattle.vx_room.specs.declared.items.ClusteredItem.{ClusteredItem}
+use Rattle.vx_room.specs.declared.items.Item.TheVariants.{Plain as PlainItem}
+use Rattle.vx_room.specs.Items.{base_of, general_reads_of_op, takes_port, is_split, is_observable_item, latency_of_op}
 use Rattle.vx_regs.specs.Intervals.{IsBusy, is_named}
-use Rattle.vx_machine.specs.Room.{home_of, source_of, read_clusters, is_at, count_at, count_in, needs, reads_at, writes_at, has_room_at, is_cluster, stand_well}
+use Rattle.vx_room.specs.Room.{home_of, source_of, read_clusters, is_at, count_at, count_in, needs, reads_at, writes_at, has_room_at, is_cluster, stand_well}
 use Rattle.vx_mixed.specs.declared.layout.Laid.{Laid}
 use Rattle.vx_mixed.specs.declared.layout.Laid.TheVariants.{Plain, Split}
 use Rattle.vx_mixed.specs.Settled.{stands_for}

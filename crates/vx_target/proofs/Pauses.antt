@@ -10,9 +10,9 @@ use Rattle.vx_isa.specs.declared.program.Word.{Word}
 use Rattle.vx_isa.specs.Numbers.{Numbers, IsMachine}
 use Rattle.vx_isa.specs.Operations.{comes_from, destination_of, latency_of}
 use Rattle.vx_isa.specs.Machine.{cycles_of}
-use Rattle.vx_machine.proofs.Latencies.{few_cycles}
+use Rattle.vx_room.proofs.Latencies.{few_cycles}
 use Rattle.vx_isa.proofs.Ranges.{Ranges, ranges, code_range, move_range}
-use Rattle.vx_machine.specs.Items.{latency_of_op}
+use Rattle.vx_room.specs.Items.{latency_of_op}
 use Rattle.vx_mixed.specs.declared.layout.Laid.{Laid}
 use Rattle.vx_mixed.specs.declared.layout.Laid.TheVariants.{Plain, Split}
 use Rattle.vx_target.specs.Target.{Target, kept, is_slotted, slotted, register_of, latest, in_flight, pause, if_any, slots_in_flight, is_to, landing_of, flight, time_to, wanted}

@@ -13,10 +13,10 @@ use Rattle.vx_isa.specs.Fits.{is_bad_word, fits}
 use Rattle.vx_isa.specs.Machine.{memory_at_start, words_run}
 use Rattle.vx_isa.specs.Numbers.{Numbers, IsMachine}
 use Rattle.vx_isa.specs.Paths.{WordAt, NeverReadsEarly, NeverWritesEarly}
-use Rattle.vx_machine.specs.declared.items.Item.TheVariants.{Plain as PlainItem, Split as SplitItem}
-use Rattle.vx_machine.specs.declared.items.ClusteredItem.{ClusteredItem}
-use Rattle.vx_machine.specs.Items.{latency_of_op}
-use Rattle.vx_machine.specs.Room.{has_room}
+use Rattle.vx_room.specs.declared.items.Item.TheVariants.{Plain as PlainItem, Split as SplitItem}
+use Rattle.vx_room.specs.declared.items.ClusteredItem.{ClusteredItem}
+use Rattle.vx_room.specs.Items.{latency_of_op}
+use Rattle.vx_room.specs.Room.{has_room}
 use Rattle.vx_mixed.specs.declared.layout.Laid.{Laid}
 use Rattle.vx_mixed.specs.declared.layout.Laid.TheVariants.{Plain, Split}
 use Rattle.vx_mixed.specs.declared.layout.VirtualWord.TheVariants.{Call}

@@ -14,7 +14,7 @@ use Rattle.vx_isa.specs.declared.operation.Source.TheVariants.{Held}
 use Rattle.vx_isa.specs.declared.operation.Operation.{Operation}
 use Rattle.vx_isa.specs.declared.operation.Operation.TheVariants.{FromLink, Store, Goto}
 use Rattle.vx_isa.specs.declared.program.Word.{Word}
-use Rattle.vx_machine.specs.Items.{latency_of_op}
+use Rattle.vx_room.specs.Items.{latency_of_op}
 use Rattle.vx_mixed.specs.LaidSettled.{bank_in}
 use Rattle.vx_mixed.specs.Settled.{NoTwice}
 use Rattle.vx_regs.specs.Intervals.{IsBusy, is_live}

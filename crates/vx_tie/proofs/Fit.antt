@@ -34,9 +34,9 @@ use Rattle.vx_isa.specs.Numbers.{Numbers}
 use Rattle.vx_isa.specs.Fits.{is_in_file, is_twice, keeps_to_cluster, destinations, fits, takes_read_port}
 use Rattle.vx_isa.specs.Operations.{latency_of}
 use Rattle.vx_isa.proofs.FitsLaw.{six_parts}
-use Rattle.vx_machine.specs.Items.{latency_of_op}
-use Rattle.vx_machine.specs.Needs.{FitsByRoom}
-use Rattle.vx_machine.specs.Room.{stands_well}
+use Rattle.vx_room.specs.Items.{latency_of_op}
+use Rattle.vx_room.specs.Needs.{FitsByRoom}
+use Rattle.vx_room.specs.Room.{stands_well}
 use Rattle.vx_mixed.specs.declared.layout.Laid.{Laid}
 use Rattle.vx_mixed.specs.declared.layout.Laid.TheVariants.{Plain, Split}
 use Rattle.vx_mixed.specs.declared.layout.VirtualWord.{VirtualWord}

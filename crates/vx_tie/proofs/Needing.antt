@@ -30,11 +30,11 @@ use Rattle.vx_isa.specs.declared.operation.Operation.TheVariants.{Compute, Move}
 use Rattle.vx_isa.specs.Operations.{cluster_of_register, is_general, is_zero, cluster_of, read_of, reads_of, list_of, destination_of, unit_of, unit_of_code, same_unit, comes_from, is_branch as is_branch_op, is_lone, is_observable}
 use Rattle.vx_isa.specs.Fits.{keeps_to_cluster, all_on, is_in_file, takes_read_port, takes_write_port}
 use Rattle.vx_isa.proofs.Lists.{count_by-append, count_by-cons, count_by-none}
-use Rattle.vx_machine.specs.declared.items.ClusteredItem.{ClusteredItem}
-use Rattle.vx_machine.specs.declared.items.Item.TheVariants.{Plain as PlainItem}
-use Rattle.vx_machine.specs.Items.{base_of as base_operand, general_reads_of_op, takes_port, writes_general_op, unit_of_item}
-use Rattle.vx_machine.specs.Needs.{Needs}
-use Rattle.vx_machine.specs.Room.{home_of, source_of as room_source, read_clusters, is_at, stands_well}
+use Rattle.vx_room.specs.declared.items.ClusteredItem.{ClusteredItem}
+use Rattle.vx_room.specs.declared.items.Item.TheVariants.{Plain as PlainItem}
+use Rattle.vx_room.specs.Items.{base_of as base_operand, general_reads_of_op, takes_port, writes_general_op, unit_of_item}
+use Rattle.vx_room.specs.Needs.{Needs}
+use Rattle.vx_room.specs.Room.{home_of, source_of as room_source, read_clusters, is_at, stands_well}
 use Rattle.vx_mixed.specs.declared.layout.Laid.{Laid}
 use Rattle.vx_mixed.specs.declared.layout.Laid.TheVariants.{Plain, Split}
 use Rattle.vx_mixed.specs.Settled.{read_there}

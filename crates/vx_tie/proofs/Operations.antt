@@ -23,7 +23,7 @@ use Rattle.vx_isa.specs.declared.operation.Operation.TheVariants.{Compute, Move,
 use Rattle.vx_isa.specs.Numbers.{Numbers}
 use Rattle.vx_isa.specs.Operations.{is_zero, read_of, reads_of, list_of, destination_of, is_call, comes_from, latency_of_code, latency_of}
 use Rattle.vx_isa.specs.Paths.{Among}
-use Rattle.vx_machine.specs.Items.{latency_of_op}
+use Rattle.vx_room.specs.Items.{latency_of_op}
 use Rattle.vx_mixed.specs.declared.layout.Laid.{Laid}
 use Rattle.vx_mixed.specs.declared.layout.Laid.TheVariants.{Plain, Split}
 use Rattle.vx_mixed.specs.Settled.{read_there}

@@ -9,7 +9,7 @@ use Rattle.vx_isa.specs.declared.operation.Register.{Register}
 use Rattle.vx_isa.specs.declared.operation.Register.TheVariants.{General}
 use Rattle.vx_isa.specs.Operations.{same}
 use Rattle.vx_isa.proofs.AnyTiming.{tells}
-use Rattle.vx_machine.specs.Items.{latency_of_op}
+use Rattle.vx_room.specs.Items.{latency_of_op}
 use Rattle.vx_mixed.specs.declared.layout.Laid.TheVariants.{Plain}
 use Rattle.vx_mixed.specs.declared.layout.VirtualWord.{VirtualWord}
 use Rattle.vx_mixed.specs.LaidSettled.{bank_in, item_writes, LeadsTo, cycles_of, Pends, written, later}

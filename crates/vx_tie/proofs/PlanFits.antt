@@ -20,8 +20,8 @@ use Rattle.vx_isa.specs.Operations.{same, reads_of, list_of, destination_of, is_
 use Rattle.vx_isa.specs.Fits.{operands, destinations, is_twice, keeps_to_cluster, is_in_file, IsInFile}
 use Rattle.vx_isa.proofs.AnyTiming.{tells}
 use Rattle.vx_isa.proofs.FitsLaw.{six_parts, registers_pass, fits_in_words}
-use Rattle.vx_machine.specs.Needs.{NeedsEach, FitsByRoom}
-use Rattle.vx_machine.specs.Room.{stands_well}
+use Rattle.vx_room.specs.Needs.{NeedsEach, FitsByRoom}
+use Rattle.vx_room.specs.Room.{stands_well}
 use Rattle.vx_mixed.specs.declared.layout.Laid.{Laid}
 use Rattle.vx_mixed.specs.declared.layout.Laid.TheVariants.{Plain, Split}
 use Rattle.vx_mixed.specs.Settled.{NoTwice}

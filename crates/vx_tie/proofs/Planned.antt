@@ -16,8 +16,8 @@ use Rattle.vx_flow.proofs.SoundLists.{all_in}
 use Rattle.vx_isa.specs.declared.program.WordProgram.{WordProgram}
 use Rattle.vx_isa.specs.Machine.{State, step, words_from}
 use Rattle.vx_isa.proofs.FitsLaw.{six_parts}
-use Rattle.vx_machine.specs.Items.{latency_of_op}
-use Rattle.vx_machine.specs.Room.{stands_well}
+use Rattle.vx_room.specs.Items.{latency_of_op}
+use Rattle.vx_room.specs.Room.{stands_well}
 use Rattle.vx_mixed.specs.declared.layout.Laid.{Laid}
 use Rattle.vx_mixed.specs.declared.layout.Laid.TheVariants.{Plain, Split}
 use Rattle.vx_mixed.specs.declared.layout.VWords.{VWords}

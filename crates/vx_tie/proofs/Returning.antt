@@ -26,7 +26,7 @@ use Rattle.vx_isa.specs.declared.operation.Operation.TheVariants.{Compute, Call 
 use Rattle.vx_isa.specs.declared.program.Word.{Word}
 use Rattle.vx_isa.specs.declared.program.WordProgram.{WordProgram}
 use Rattle.vx_isa.specs.Machine.{State, Halts, register, leads_to, unless_stuck, effect, issue, step}
-use Rattle.vx_machine.specs.Items.{latency_of_op}
+use Rattle.vx_room.specs.Items.{latency_of_op}
 use Rattle.vx_mixed.specs.declared.layout.VirtualWord.TheVariants.{Call, Return}
 use Rattle.vx_mixed.specs.declared.layout.VWords.{VWords}
 use Rattle.vx_layout.specs.Laid.{laid_program}

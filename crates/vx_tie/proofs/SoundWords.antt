@@ -31,8 +31,8 @@ use Rattle.vx_isa.specs.Operations.{latency_of}
 use Rattle.vx_isa.specs.Sound.{is_start, is_version, is_sound, is_sound_word}
 use Rattle.vx_isa.proofs.FitsLaw.{six_parts}
 use Rattle.vx_isa.proofs.Ranges.{ranges}
-use Rattle.vx_machine.specs.Needs.{FitsByRoom}
-use Rattle.vx_machine.specs.Room.{stands_well}
+use Rattle.vx_room.specs.Needs.{FitsByRoom}
+use Rattle.vx_room.specs.Room.{stands_well}
 use Rattle.vx_mixed.specs.declared.layout.Laid.{Laid}
 use Rattle.vx_mixed.specs.declared.layout.Laid.TheVariants.{Plain, Split}
 use Rattle.vx_mixed.specs.declared.layout.VirtualWord.{VirtualWord}

@@ -23,8 +23,8 @@ use Rattle.vx_isa.specs.Operations.{same, is_zero, reads_of, list_of, destinatio
 use Rattle.vx_isa.specs.Paths.{Among}
 use Rattle.vx_isa.proofs.AnyTiming.{tells}
 use Rattle.vx_isa.proofs.FitsLaw.{six_parts}
-use Rattle.vx_machine.specs.Items.{latency_of_op}
-use Rattle.vx_machine.specs.Room.{stands_well}
+use Rattle.vx_room.specs.Items.{latency_of_op}
+use Rattle.vx_room.specs.Room.{stands_well}
 use Rattle.vx_mixed.specs.declared.layout.Laid.{Laid}
 use Rattle.vx_mixed.specs.declared.layout.Laid.TheVariants.{Plain, Split}
 use Rattle.vx_mixed.specs.Settled.{read_there}

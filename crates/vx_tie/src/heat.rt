@@ -3,7 +3,7 @@
 
 ghost use Rattle.vx_tie.specs.Fitted.{FitLaw, NeverEarlyLaw, SoundLaw};
 
-use vx_machine::fits_by_room_law;
+use vx_room::fits_by_room_law;
 
 /// Every word of a program that carries a flow is well formed and fits its machine: planned words, since their items have room, and
 /// all others, since they hold one operation, or one on each cluster.

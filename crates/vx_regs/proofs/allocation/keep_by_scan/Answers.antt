@@ -1,6 +1,6 @@
 use Rattle.std.proofs.Common.{◌≡◌, ◌<◌, ◌^◌, List, sym, subst, length, arith, rules}
 use Rattle.std.specs.List.Sorted.{IsPermutation}
-use Rattle.vx_machine.specs.Items.{latency_of_op}
+use Rattle.vx_room.specs.Items.{latency_of_op}
 use Rattle.vx_regs.specs.declared.map.Kept.{Kept}
 use Rattle.vx_regs.specs.declared.spans.Span.{Span}
 use Rattle.vx_regs.specs.Filed.{spans_from}

@@ -1,5 +1,5 @@
 use Rattle.std.proofs.Common.{List, Option, sym, subst}
-use Rattle.vx_machine.specs.Items.{latency_of_op}
+use Rattle.vx_room.specs.Items.{latency_of_op}
 use Rattle.vx_regs.specs.declared.hulls.Hull.{Hull}
 use Rattle.vx_regs.specs.BusyPlaces.{AreHulls}
 use Rattle.vx_regs.proofs.allocation.registers.Goals as goal

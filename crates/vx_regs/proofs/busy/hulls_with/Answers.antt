@@ -1,5 +1,5 @@
 use Rattle.std.proofs.Common.{◌≡◌, [], List, Option, subst, length, rules}
-use Rattle.vx_machine.specs.Items.{latency_of_op}
+use Rattle.vx_room.specs.Items.{latency_of_op}
 use Rattle.vx_mixed.specs.declared.layout.VirtualWord.{VirtualWord}
 use Rattle.vx_regs.specs.declared.hulls.Hull.{Hull}
 use Rattle.vx_regs.specs.BusyPlaces.{NamedBelow, LiveNear, WroteBelow}

@@ -1,6 +1,6 @@
 use Rattle.std.proofs.lemmas.Option.{slice_get-get_or}
 use Rattle.std.proofs.Common.{sym, ap, ◌∙◌, ◌≡◌, Some, slice_get, subst, arith, length}
-use Rattle.vx_machine.specs.Items.{latency_of_op}
+use Rattle.vx_room.specs.Items.{latency_of_op}
 use Rattle.vx_regs.specs.BusyPlaces.{WordWrote, WroteBelow}
 use Rattle.vx_regs.specs.Hulls.{Notes}
 use Rattle.vx_regs.proofs.BusyNotes.{wrote_next}

@@ -1,4 +1,4 @@
-use Rattle.vx_machine.specs.Items.{latency_of_op}
+use Rattle.vx_room.specs.Items.{latency_of_op}
 use Rattle.vx_regs.specs.BusyPlaces.{WroteBelow}
 use Rattle.vx_regs.specs.Hulls.{Notes}
 use Rattle.vx_regs.proofs.busy.note_pending.Given as goal

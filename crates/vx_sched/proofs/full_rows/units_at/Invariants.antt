@@ -1,6 +1,6 @@
 -- those so far are counted
 use Rattle.std.proofs.Common.{◌≡◌, ◌≤◌, take}
-use Rattle.vx_machine.specs.Room.{count_at, needs}
+use Rattle.vx_room.specs.Room.{count_at, needs}
 use Rattle.vx_sched.proofs.full_rows.units_at.Given as goal
 
 abbrev pub invariant-loop-item : goal.invariant-loop-item

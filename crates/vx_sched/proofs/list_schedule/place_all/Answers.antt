@@ -1,7 +1,7 @@
 use Rattle.std.proofs.Common.{rules, ◌≡◌, true, Some, None, ◌<◌, ◌++◌, [], arith, drop, slice_set, map, length, subst, sym}
 use Rattle.std.proofs.lemmas.Result.{IfOk-weaker}
 use Rattle.vx_isa.specs.Numbers.{is_machine}
-use Rattle.vx_machine.specs.Room.{has_room}
+use Rattle.vx_room.specs.Room.{has_room}
 use Rattle.vx_dep.specs.Deps.{height_in}
 use Rattle.vx_sched.specs.Placement.{PlacedBy}
 use Rattle.vx_sched.specs.Filling.{AreWithout, word_or_0, IsNext, IsReadyNow, IsFirstWith}

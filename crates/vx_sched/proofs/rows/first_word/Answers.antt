@@ -1,6 +1,6 @@
 use Rattle.std.proofs.Common.{◌≡◌, ◌++◌, ◌∷◌, [], subst, sym, ◌∙◌, ap}
 use Rattle.std.proofs.lemmas.List.{get_or_read}
-use Rattle.vx_machine.specs.Room.{has_room}
+use Rattle.vx_room.specs.Room.{has_room}
 use Rattle.vx_sched.specs.Filling.{row_of}
 use Rattle.vx_sched.proofs.RowSteps.{NoneUpTo, one_more, found, past_all}
 use Rattle.vx_sched.proofs.rows.first_word.Goals as goal

@@ -1,5 +1,5 @@
 use Rattle.std.proofs.Common.{◌++◌, ◌∷◌, [], List, ap, ◌∙◌}
-use Rattle.vx_machine.specs.declared.items.ClusteredItem.{ClusteredItem}
+use Rattle.vx_room.specs.declared.items.ClusteredItem.{ClusteredItem}
 use Rattle.vx_sched.specs.Filling.{row_of}
 use Rattle.vx_sched.proofs.RowSteps.{empty_row}
 use Rattle.vx_sched.proofs.rows.reach.Goals as goal

@@ -1,7 +1,0 @@
-use Rattle.std.proofs.Common.{◌≡◌, take}
-use Rattle.vx_machine.specs.Items.{is_split}
-use Rattle.vx_machine.specs.Room.{count_in}
-use Rattle.vx_machine.proofs.room.count_of_splits.Given as goal
-
-abbrev pub invariant-loop-x : goal.invariant-loop-x
-invariant-loop-x l = l.count ≡ count_in is_split (take l.x-index l.items)

@@ -1,0 +1,6 @@
+pub mod Latencies
+mod RoomSteps
+mod RoomLaw
+mod RoomAlone
+mod FitsByRoom
+mod RoomRows

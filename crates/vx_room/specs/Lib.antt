@@ -1,0 +1,4 @@
+pub mod Items
+pub mod Room
+pub mod Left
+pub mod Needs
