@@ -1,8 +1,8 @@
 -- Lists of writes: how many cycles they need, by their entries.
 use Rattle.std.proofs.Common.{◌≡◌, ℕ, zero, suc, ◌+◌, ◌≤◌, Bool, true, false, List, [], ◌∷◌, ◌++◌, Some, None, refl, sym, subst, ap, ◌∙◌, arith, inl, inr, ⊎_elim}
 use Rattle.std.specs.Prelude.{max, if◌then◌else◌}
-use Rattle.vx_flow.specs.Effects.{IsIn}
-use Rattle.vx_flow.proofs.Members.{in_left, in_right, in_front_or_last}
+use Rattle.vx_tables.specs.Rows.{IsIn}
+use Rattle.vx_tables.proofs.Members.{in_left, in_right, in_front_or_last}
 use Rattle.vx_isa.specs.declared.operation.Register.{Register}
 use Rattle.vx_isa.specs.declared.operation.Operation.{Operation}
 use Rattle.vx_isa.specs.declared.operation.Operation.TheVariants.{Compute, Move, Select, Load, Store, Input, More, OutText, OutDecimal, OutByte, Goto, BranchOn, Call, Return, FromLink, ToLink, EndByTrap, Halt}

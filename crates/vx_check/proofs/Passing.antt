@@ -2,9 +2,8 @@
 use Rattle.std.proofs.Common.{◌≡◌, ℕ, zero, suc, ◌+◌, ◌<◌, ◌≤◌, true, List, [], ◌∷◌, length, slice_get, slice_set, Some, None, Option, refl, sym, subst, ap, ◌∙◌, arith, inl, inr, ⊎_elim}
 use Rattle.std.specs.Prelude.{◌⊎◌}
 use Rattle.vx_base.specs.Paths.{After, first, more, Reached, beyond}
-use Rattle.vx_flow.specs.Effects.{IsIn}
-use Rattle.vx_flow.specs.Rows.{row_at}
-use Rattle.vx_flow.proofs.Members.{set_there, set_elsewhere}
+use Rattle.vx_tables.specs.Rows.{IsIn, row_at}
+use Rattle.vx_tables.proofs.Members.{set_there, set_elsewhere}
 use Rattle.vx_isa.specs.declared.operation.Register.{Register}
 use Rattle.vx_isa.specs.declared.operation.Operation.{Operation}
 use Rattle.vx_isa.specs.declared.program.Word.{Word}

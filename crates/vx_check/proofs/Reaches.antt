@@ -2,12 +2,9 @@
 use Rattle.std.proofs.Common.{◌≡◌, ℕ, zero, suc, ◌+◌, ◌<◌, Bool, true, false, List, [], ◌∷◌, ◌++◌, length, length-append, slice_get, slice_set, Some, refl, sym, subst, ◌∙◌, arith, inl, inr, ⊎_elim}
 use Rattle.std.specs.Prelude.{◌⊎◌}
 use Rattle.vx_base.specs.Paths.{Reached, here, beyond}
-use Rattle.vx_flow.specs.Effects.{IsIn}
-use Rattle.vx_flow.specs.Rows.{is_marked}
-use Rattle.vx_flow.proofs.Members.{in_left, in_front_or_last, in_last}
-use Rattle.vx_flow.proofs.ClosingSteps.{set_only, set_keeps, set_self}
-use Rattle.vx_flow.proofs.HeaderSteps.{length_set}
-use Rattle.vx_flow.proofs.Remaining.{set_less}
+use Rattle.vx_tables.specs.Rows.{IsIn, is_marked}
+use Rattle.vx_tables.proofs.Members.{in_left, in_front_or_last, in_last}
+use Rattle.vx_tables.proofs.Marks.{length_set, set_keeps, set_less, set_only, set_self}
 use Rattle.vx_isa.specs.declared.program.Word.{Word}
 use Rattle.vx_isa.specs.declared.program.WordProgram.{WordProgram}
 use Rattle.vx_isa.specs.Paths.{Leads, LeadsTo, WordAt}

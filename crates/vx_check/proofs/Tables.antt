@@ -2,7 +2,7 @@
 use Rattle.std.proofs.Common.{◌≡◌, ℕ, zero, suc, ◌+◌, ◌≤◌, Bool, true, false, not, ◌&&◌, ◌||◌, nat_lt, List, [], ◌∷◌, refl, subst, ap, ◌∙◌, arith, inl, inr, ltb-false}
 use Rattle.std.specs.Prelude.{max}
 use Rattle.std.specs.List.{list_any}
-use Rattle.vx_flow.specs.Rows.{row_at}
+use Rattle.vx_tables.specs.Rows.{row_at}
 use Rattle.vx_isa.specs.declared.operation.Register.{Register}
 use Rattle.vx_isa.specs.declared.program.Word.{Word}
 use Rattle.vx_isa.specs.declared.program.WordProgram.{WordProgram}

@@ -2,8 +2,7 @@
 -- return may carry to every place.
 use Rattle.std.specs.Prelude.{◌≡◌, ◌⊎◌, ◌<◌, ◌≤◌, ℕ, ◌+◌, Bool, true, false, List, [], ◌∷◌, Some, length, max, not, ◌&&◌, ◌||◌, nat_lt, if◌then◌else◌}
 use Rattle.vx_base.specs.Paths.{After, Reached}
-use Rattle.vx_flow.specs.Effects.{IsIn}
-use Rattle.vx_flow.specs.Rows.{is_marked, row_at, work}
+use Rattle.vx_tables.specs.Rows.{IsIn, is_marked, row_at, work}
 use Rattle.vx_isa.specs.declared.operation.Register.{Register}
 use Rattle.vx_isa.specs.declared.operation.Operation.{Operation}
 use Rattle.vx_isa.specs.declared.operation.Operation.TheVariants.{Goto, BranchOn, Call, Return, EndByTrap, Halt}

@@ -1,7 +1,7 @@
 // The places that static paths from the start reach.
 
 ghost use Rattle.std.specs.Prelude.{◌≡◌, ◌<◌, ◌≤◌, ℕ, ◌∷◌, [], ◌++◌, true, false, length, IfOk};
-ghost use Rattle.vx_flow.specs.Rows.{is_marked, work};
+ghost use Rattle.vx_tables.specs.Rows.{is_marked, work};
 ghost use Rattle.vx_isa.specs.declared.program.Word.{Word};
 ghost use Rattle.vx_isa.specs.Paths.{WordAt};
 ghost use Rattle.vx_check.specs.InFlight.{IsFilled, Marked, Reaching, ReachedMarks, leads_anywhere};

@@ -6,7 +6,7 @@ ghost use Rattle.vx_base.specs.Paths.{Reached};
 ghost use Rattle.vx_isa.specs.declared.operation.Operation.{Operation};
 ghost use Rattle.vx_isa.specs.Operations.{latency_of};
 ghost use Rattle.vx_isa.specs.Paths.{Leads};
-ghost use Rattle.vx_flow.specs.Rows.{row_at};
+ghost use Rattle.vx_tables.specs.Rows.{row_at};
 ghost use Rattle.vx_check.specs.InFlight.{AllPassed, AreDue, JoinsAt, JoinsIf, Passed, ReachedMarks, Spread, Tell, leads_anywhere};
 
 use crate::in_flight::{InFlight, add_all, leaving};

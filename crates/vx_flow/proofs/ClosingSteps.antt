@@ -7,27 +7,9 @@ use Rattle.vx_flow.specs.Live.{first_touch, LiveOn}
 use Rattle.vx_flow.specs.Rows.{Added, is_marked, row_at}
 use Rattle.vx_flow.specs.Closing.{BeginWithin, Closing, PutUnder, Spreads, Starting, cleared_row, is_read, is_untouched, marked_pending, marked_row, passes, pending_passed, pending_started, row_passed, row_started, starts}
 use Rattle.vx_flow.proofs.Members.{in_left, in_last, in_front_or_last}
+use Rattle.vx_tables.proofs.Marks.{set_only, set_keeps, set_self}
 
 -- marks
-
-pub set_only : (row : List Bool) (p b : ℕ) → is_marked (slice_set row p true) b ≡ true → (is_marked row b ≡ true) ⊎ (b ≡ p)
-set_only [] p b h = inl h
-set_only (x ∷ row) zero zero h = inr refl
-set_only (x ∷ row) zero (suc b) h = inl h
-set_only (x ∷ row) (suc p) zero h = inl h
-set_only (x ∷ row) (suc p) (suc b) h = elim (set_only row p b h) [ inl m ↦ inl m | inr e ↦ inr (ap suc e) ]
-
-pub set_keeps : (row : List Bool) (p b : ℕ) → is_marked row b ≡ true → is_marked (slice_set row p true) b ≡ true
-set_keeps [] p b h = h
-set_keeps (x ∷ row) zero zero h = refl
-set_keeps (x ∷ row) zero (suc b) h = h
-set_keeps (x ∷ row) (suc p) zero h = h
-set_keeps (x ∷ row) (suc p) (suc b) h = set_keeps row p b h
-
-pub set_self : (row : List Bool) (p : ℕ) → p < length row → is_marked (slice_set row p true) p ≡ true
-set_self [] p h = absurd (omega arith)
-set_self (x ∷ row) zero h = refl
-set_self (x ∷ row) (suc p) h = set_self row p (omega arith)
 
 record Marks (row after : List Bool) (pending later : List ℕ) (n : ℕ) : Type 0 where
   keeps : (b : ℕ) → is_marked row b ≡ true → is_marked after b ≡ true

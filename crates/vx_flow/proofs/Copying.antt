@@ -1,5 +1,5 @@
 -- Lists that grow by one item in each turn of a loop, or are looked through.
-use Rattle.std.proofs.Common.{◌≡◌, ℕ, zero, suc, ◌+◌, ◌<◌, ◌==◌, ◌||◌, Bool, true, false, List, [], ◌∷◌, ◌++◌, length, take, get_or, slice_index_or, refl, sym, ap, ◌∙◌, append_assoc, append-nil}
+use Rattle.std.proofs.Common.{◌≡◌, ℕ, ◌+◌, ◌<◌, ◌==◌, ◌||◌, Bool, true, false, List, [], ◌∷◌, ◌++◌, length, take, get_or, sym, ap, ◌∙◌, append_assoc, append-nil}
 use Rattle.std.specs.List.{flat_map, list_any}
 use Rattle.std.proofs.lemmas.List.{take_more, map-append}
 use Rattle.std.proofs.lemmas.List.Folds.{list_any_more, list_any_at}
@@ -30,12 +30,6 @@ read_more f xs old list new d i h so_far more =
     more ∙ ap (λ l. l ++ reading (f (get_or xs i d))) so_far ∙ append_assoc old (reading (flat_map f (take i xs))) (reading (f (get_or xs i d)))
     ∙ ap (λ l. old ++ l) (sym (map-append (touch true) (flat_map f (take i xs)) (f (get_or xs i d))))
     ∙ ap (λ l. old ++ reading l) (flat_more f xs d i h)
-
-pub grown : {A : Type 0} (xs : List A) (d : A) (i : ℕ) → slice_index_or (xs ++ d ∷ []) i d ≡ slice_index_or xs i d
-grown [] d zero = refl
-grown [] d (suc i) = refl
-grown (x ∷ xs) d zero = refl
-grown (x ∷ xs) d (suc i) = grown xs d i
 
 -- whether a number is among those of a list, one more looked at
 

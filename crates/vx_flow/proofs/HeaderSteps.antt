@@ -7,7 +7,7 @@ use Rattle.vx_flow.specs.declared.graph.Edge.{Edge}
 use Rattle.vx_flow.specs.Rows.{is_marked}
 use Rattle.vx_flow.specs.Walk.{BackEdges, Headers, numbers}
 use Rattle.vx_flow.specs.Walking.{MarksTargets}
-use Rattle.vx_flow.proofs.ClosingSteps.{set_self}
+use Rattle.vx_tables.proofs.Marks.{length_set, set_self}
 
 -- marks of the targets of edges
 
@@ -36,11 +36,6 @@ or_left_swap : (a b c : Bool) → ((a || b) || c) ≡ (b || (a || c))
 or_left_swap true true c = refl
 or_left_swap true false c = refl
 or_left_swap false b c = refl
-
-pub length_set : (marks : List Bool) (to : ℕ) → length (slice_set marks to true) ≡ length marks
-length_set [] to = refl
-length_set (x ∷ marks) zero = refl
-length_set (x ∷ marks) (suc to) = let h = length_set marks to in omega arith
 
 pub targets_step : (marks : List Bool) (edges todo : List Edge) (n : ℕ) (e : Edge) → Targets marks edges (e ∷ todo) n → Targets (slice_set marks e.to true) edges todo n
 targets_step marks edges todo n e s = record {

@@ -10,15 +10,9 @@ use Rattle.vx_flow.specs.Rows.{is_marked, unmarked, work}
 use Rattle.vx_flow.specs.Closing.{BeginWithin, marked_pending, marked_row, passes, pending_passed, row_passed}
 use Rattle.vx_flow.specs.Walk.{ascending, successors, successors_in, successors_of}
 use Rattle.vx_flow.specs.Walking.{place, places_after, places_begun, seen_after, seen_begun}
+use Rattle.vx_tables.proofs.Marks.{set_less}
 
 -- marking
-
-pub set_less : (row : List Bool) (p : ℕ) → p < length row → is_marked row p ≡ false → unmarked (slice_set row p true) + 1 ≡ unmarked row
-set_less [] p h e = absurd (omega arith)
-set_less (true ∷ row) zero h e = absurd (cc)
-set_less (false ∷ row) zero h e = refl
-set_less (true ∷ row) (suc p) h e = set_less row p (omega arith) e
-set_less (false ∷ row) (suc p) h e = ap (λ n. n + 1) (set_less row p (omega arith) e)
 
 one_longer : {A : Type 0} (xs : List A) (x : A) → length (xs ++ x ∷ []) ≡ length xs + 1
 one_longer xs x = simp length-append (omega arith)

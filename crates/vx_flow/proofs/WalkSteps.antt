@@ -8,7 +8,7 @@ use Rattle.vx_flow.specs.Effects.{IsIn}
 use Rattle.vx_flow.specs.Rows.{is_marked}
 use Rattle.vx_flow.specs.Walk.{Walks, BackEdges, edge, numbers, successors}
 use Rattle.vx_flow.specs.Walking.{LeadWithin, Walking, Rest, Distinct, place, path_of, back_after, path_after, path_begun, places_after, places_begun, seen_after, seen_begun}
-use Rattle.vx_flow.proofs.ClosingSteps.{set_only, set_keeps, set_self}
+use Rattle.vx_tables.proofs.Marks.{set_only, set_keeps, set_self}
 
 -- lists
 

@@ -9,6 +9,7 @@ use Rattle.vx_flow.specs.declared.graph.Operand.{Operand}
 use Rattle.vx_flow.specs.declared.graph.Operand.TheVariants.{Held, Number, Stack}
 use Rattle.vx_flow.specs.declared.graph.Op.{Op}
 use Rattle.vx_flow.specs.declared.graph.Op.TheVariants.{Compute, Select, Place, Load, Store, More, Input, Text, Decimal, Across, Base, PlaceIn}
+pub use Rattle.vx_tables.specs.Rows.{IsIn}
 
 -- what a value or a word of an array holds: a number, or None where it is undefined, as before it is first written
 abbrev pub Content : Type 0
@@ -200,11 +201,6 @@ at s (Of v) = Holds (s.values v)
 at s (Cell a i) = Holds (slice_index_or (row_of s a) i None)
 at s TheInput = Left s.input
 at s TheOutput = Printed s.out
-
--- x is among the items
-abbrev pub IsIn : {A : Type 0} → A → List A → Type 0
-IsIn x [] = ⊥
-IsIn x (y ∷ ys) = (x ≡ y) ⊎ IsIn x ys
 
 abbrev pub IsOf : List ℕ → Location → Type 0
 IsOf values l = (v : ℕ) × IsIn v values × (l ≡ Of v)

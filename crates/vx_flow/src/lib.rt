@@ -1,5 +1,4 @@
-// Graphs of blocks, and traces of them: what a graph is, when it is sound, what it does, which values are live in it, its back
-// edges and headers.
+// Graphs of blocks, and traces of them: what they are and do, when they are sound, live values, back edges, headers.
 #![tactic(auto)]
 
 pub mod arrays;
@@ -13,7 +12,6 @@ mod liveness;
 pub mod operands;
 mod route_index;
 pub mod routes;
-mod rows;
 pub mod touched_values;
 pub mod trace;
 mod walk;

@@ -12,10 +12,10 @@ ghost use Rattle.vx_flow.specs.Closing.{BeginWithin, Closing, EnteringFound, Put
 
 use crate::graph::{BlockId, Value};
 use crate::routes::{Route, Touch};
-use crate::rows::Rows;
 use std::alloc::Global;
 use vx_base::listed::Listed;
 use vx_base::outcome::NoMemory;
+use vx_tables::rows::Rows;
 
 /// Whether the first that a route does to a value is to read it; `None` where it does nothing to it.
 pub fn first_touch(touches: &[Touch], value: Value) -> Option<bool>

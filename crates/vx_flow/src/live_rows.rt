@@ -5,9 +5,9 @@ ghost use Rattle.std.specs.List.{list_any};
 ghost use Rattle.vx_flow.specs.Rows.{lives, row_at, Rising};
 
 use crate::graph::{BlockId, Value};
-use crate::rows::Rows;
 use std::alloc::Global;
 use std::marker::Model;
+use vx_tables::rows::Rows;
 
 /// Which values are live at the start of which blocks. In a contract it is a list with a row for each block, in which the
 /// values that are live there are listed, each once and in ascending order; a row that is not there is empty.

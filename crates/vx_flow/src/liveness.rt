@@ -12,11 +12,11 @@ use crate::live_nodes::{list_found, live_nodes, unmarked};
 use crate::live_rows::Live;
 use crate::route_index::{entering_of, readers_of};
 use crate::routes::{Route, Touch, targets_of};
-use crate::rows::Rows;
 use crate::touched_values::{touch_exit, touch_reads, touch_writes};
 use std::alloc::Global;
 use vx_base::listed::Listed;
 use vx_base::outcome::NoMemory;
+use vx_tables::rows::Rows;
 
 /// The values that are live at the start of each block of a graph.
 pub fn live(alloc: Global, graph: &Graph) -> Result<Live, NoMemory>

@@ -8,9 +8,9 @@ ghost use Rattle.vx_flow.specs.Closing.{EnteringFound, MarkPut, ReadersFound, ma
 
 use crate::graph::{BlockId, Value};
 use crate::routes::{Route, Touch};
-use crate::rows::Rows;
 use std::alloc::Global;
 use vx_base::outcome::NoMemory;
+use vx_tables::rows::Rows;
 
 /// The routes that lead to each node.
 pub fn entering_of(alloc: Global, routes: &[Route]) -> Result<Rows, NoMemory>

@@ -1,8 +1,8 @@
 use Rattle.std.proofs.Common.{◌≡◌, ◌<◌, ℕ, List, [], ◌∷◌, true, false, length, sym, subst, ◌∙◌, arith}
 use Rattle.std.proofs.lemmas.List.{nil_from_length}
 use Rattle.std.proofs.lemmas.Result.{IfOk-weaker}
-use Rattle.vx_flow.specs.Effects.{IsIn}
-use Rattle.vx_flow.proofs.Members.{in_last}
+use Rattle.vx_tables.specs.Rows.{IsIn}
+use Rattle.vx_tables.proofs.Members.{in_last}
 use Rattle.vx_check.specs.InFlight.{IsFilled, Marked, Reaching, ReachedMarks, leads_anywhere}
 use Rattle.vx_check.proofs.Reaches.{all_followed, all_reached, begins, mark_within, word_there}
 use Rattle.vx_check.proofs.reached.reached.Goals as goal

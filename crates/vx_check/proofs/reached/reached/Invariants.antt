@@ -1,4 +1,4 @@
-use Rattle.vx_flow.specs.Rows.{work}
+use Rattle.vx_tables.specs.Rows.{work}
 use Rattle.vx_check.specs.InFlight.{Reaching}
 use Rattle.vx_check.proofs.reached.reached.Given as goal
 

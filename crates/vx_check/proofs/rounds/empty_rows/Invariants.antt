@@ -1,5 +1,5 @@
 use Rattle.std.proofs.Common.{◌≡◌, ℕ, [], length}
-use Rattle.vx_flow.specs.Rows.{row_at}
+use Rattle.vx_tables.specs.Rows.{row_at}
 use Rattle.vx_check.proofs.rounds.empty_rows.Given as goal
 
 abbrev pub invariant-places : goal.invariant-places

@@ -1,7 +1,7 @@
 use Rattle.std.proofs.Common.{◌+◌, List, subst}
 use Rattle.std.proofs.lemmas.Result.{IfOk-weaker}
 use Rattle.vx_isa.specs.declared.operation.Operation.{Operation}
-use Rattle.vx_flow.specs.Rows.{row_at}
+use Rattle.vx_tables.specs.Rows.{row_at}
 use Rattle.vx_check.specs.declared.in_flight.InFlight.{InFlight}
 use Rattle.vx_check.specs.InFlight.{AreDue, Leaves, Passed, Spread}
 use Rattle.vx_check.proofs.Passing.{passed, still_due}

@@ -1,5 +1,5 @@
 use Rattle.std.proofs.Common.{◌≡◌, ℕ, ◌+◌, Bool, true, false, List, sym, subst, ◌∙◌, arith}
-use Rattle.vx_flow.specs.Rows.{is_marked}
+use Rattle.vx_tables.specs.Rows.{is_marked}
 use Rattle.vx_isa.specs.declared.program.WordProgram.{WordProgram}
 use Rattle.vx_isa.specs.Numbers.{Numbers}
 use Rattle.vx_check.specs.declared.rounds.Flights.{Flights}

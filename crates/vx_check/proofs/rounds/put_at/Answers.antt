@@ -1,6 +1,6 @@
 use Rattle.std.proofs.Common.{◌<◌, List, [], ◌∷◌, length, slice_set, sym, subst, arith}
 use Rattle.std.proofs.lemmas.Result.{IfOk-weaker}
-use Rattle.vx_flow.proofs.Members.{row_is}
+use Rattle.vx_tables.proofs.Members.{row_is}
 use Rattle.vx_check.specs.declared.in_flight.InFlight.{InFlight}
 use Rattle.vx_check.specs.InFlight.{Joins, JoinsAt}
 use Rattle.vx_check.proofs.Passing.{joins_at}

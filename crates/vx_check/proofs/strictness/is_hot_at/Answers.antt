@@ -2,7 +2,7 @@ use Rattle.std.proofs.Common.{◌≡◌, List, sym, ap, ◌∙◌}
 use Rattle.std.specs.List.{list_any}
 use Rattle.vx_isa.specs.declared.operation.Operation.{Operation}
 use Rattle.vx_isa.specs.Fits.{operands}
-use Rattle.vx_flow.specs.Rows.{row_at}
+use Rattle.vx_tables.specs.Rows.{row_at}
 use Rattle.vx_check.specs.declared.in_flight.InFlight.{InFlight}
 use Rattle.vx_check.specs.InFlight.{is_hot}
 use Rattle.vx_check.proofs.Tables.{word_cold, word_hot}

@@ -1,6 +1,6 @@
 use Rattle.std.proofs.Common.{ap, ◌∙◌}
 use Rattle.vx_flow.specs.Closing.{mark_at}
-use Rattle.vx_flow.proofs.Copying.{grown}
+use Rattle.vx_tables.proofs.Members.{grown}
 use Rattle.vx_flow.proofs.route_index.reach.Goals as goal
 
 pub loop-marks-preserved : goal.loop-marks-preserved

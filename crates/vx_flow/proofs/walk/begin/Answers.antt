@@ -2,7 +2,7 @@ use Rattle.std.proofs.Common.{◌≡◌, ◌∙◌, Bool, true, false, [], ◌�
 use Rattle.std.proofs.lemmas.List.{get_or_read}
 use Rattle.std.proofs.lemmas.Result.{IfOk-from_err}
 use Rattle.vx_flow.specs.Walking.{place}
-use Rattle.vx_flow.proofs.HeaderSteps.{length_set}
+use Rattle.vx_tables.proofs.Marks.{length_set}
 use Rattle.vx_flow.proofs.walk.begin.Goals as goal
 
 pub returns-in_ok-push-clause-seen : goal.returns-in_ok-push-clause-seen

@@ -1,7 +1,7 @@
 use Rattle.std.proofs.Common.{ℕ, List, [], ◌∷◌, ◌++◌, ap, ◌∙◌}
-use Rattle.vx_flow.specs.Rows.{row_at}
-use Rattle.vx_flow.proofs.Copying.{grown}
-use Rattle.vx_flow.proofs.rows.Rows.reach.Goals as goal
+use Rattle.vx_tables.specs.Rows.{row_at}
+use Rattle.vx_tables.proofs.Members.{grown}
+use Rattle.vx_tables.proofs.rows.Rows.reach.Goals as goal
 
 pub loop-self-preserved : goal.loop-self-preserved
 loop-self-preserved c = λ q.

@@ -1,8 +1,8 @@
 // A growing table of rows of numbers: which numbers are listed under a number.
 
 ghost use Rattle.std.specs.Prelude.{◌≡◌, ◌<◌, ℕ, [], IfOk, length};
-ghost use Rattle.vx_flow.specs.Effects.{IsIn};
-ghost use Rattle.vx_flow.specs.Rows.{row_at, Added, RowsKept};
+ghost use Rattle.vx_tables.specs.Rows.{IsIn};
+ghost use Rattle.vx_tables.specs.Rows.{row_at, Added, RowsKept};
 
 use std::alloc::Global;
 use std::marker::Model;

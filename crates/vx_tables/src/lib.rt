@@ -1,0 +1,4 @@
+// Tables of rows, and marks of places.
+#![tactic(auto)]
+
+pub mod rows;
