@@ -15,7 +15,7 @@ use crate::registers::Registers;
 use crate::ring::Ring;
 use crate::shape::{Shape, shapes_of};
 use crate::state::Standing;
-use crate::steps::step;
+use crate::steps::{Loaded, step};
 use std::alloc::Global;
 use vx_base::outcome::NoMemory;
 use vx_io::sink::Sink;
@@ -114,9 +114,11 @@ impl Sim {
         keeps_count(&self.issued);
         'words: for passed in 0..words {
             let ended = step(
-                &self.program,
-                &self.machine,
-                &self.shapes,
+                &Loaded {
+                    program: &self.program,
+                    machine: &self.machine,
+                    shapes: &self.shapes,
+                },
                 &mut self.standing,
                 &mut self.ring,
                 &mut self.issued,

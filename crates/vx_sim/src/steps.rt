@@ -26,11 +26,17 @@ use vx_isa::program::{Word, WordProgram};
 use vx_machine::Machine;
 use vx_probe::{Event, Probe, Timing};
 
+/// A program, the machine that issues it, and the shape of each of its words.
+#[derive(Clone, Copy)]
+pub(crate) struct Loaded<'a> {
+    pub(crate) program: &'a WordProgram,
+    pub(crate) machine: &'a Machine,
+    pub(crate) shapes: &'a Vec<Shape>,
+}
+
 /// Issues the word at which the simulator stands, and answers how the program ended if it did.
 pub(crate) fn step<K: Sink>(
-    program: &WordProgram,
-    machine: &Machine,
-    shapes: &Vec<Shape>,
+    loaded: &Loaded,
     now: &mut Standing,
     ring: &mut Ring,
     issued: &mut u64,
@@ -38,29 +44,34 @@ pub(crate) fn step<K: Sink>(
     timing: &mut Box<dyn Timing>,
     probes: &mut Vec<Box<dyn Probe>>,
 ) -> Option<Ended>
-    requires sound { is_sound program.now ≡ true }
-    requires tested { shapes.now.items ≡ map (shape_of machine.now) program.now.words }
-    requires size { program.now.memory ≡ 4 * length now.old.memory.items }
-    requires room { HasRoom (widest shapes.now.items) 0 ring.old }
-    ensures stepped { Stepped machine.now program.now (standing_at now.old (flying_of ring.old) (times timing.old)) (state_of now.new (flying_of ring.new)) (times timing.old) (times timing.new) (map (λ b. watch b) probes.old.items) (map (λ b. watch b) probes.new.items) issued.old issued.new (K.told out.old) (K.told out.new) result }
+    requires sound { is_sound loaded.now.program.now ≡ true }
+    requires tested { loaded.now.shapes.now.items ≡ map (shape_of loaded.now.machine.now) loaded.now.program.now.words }
+    requires size { loaded.now.program.now.memory ≡ 4 * length now.old.memory.items }
+    requires room { HasRoom (widest loaded.now.shapes.now.items) 0 ring.old }
+    ensures stepped { Stepped loaded.now.machine.now loaded.now.program.now (standing_at now.old (flying_of ring.old) (times timing.old)) (state_of now.new (flying_of ring.new)) (times timing.old) (times timing.new) (map (λ b. watch b) probes.old.items) (map (λ b. watch b) probes.new.items) issued.old issued.new (K.told out.old) (K.told out.new) result }
     ensures failed { is_fault_of result ≡ true → Rose (K.faults out.old) (K.faults out.new) }
     ensures faults_never_fall { K.faults out.old ≤ K.faults out.new }
     ensures size_stays { length now.new.memory.items ≡ length now.old.memory.items }
-    ensures has_room { HasRoom (widest shapes.now.items) 0 ring.new }
+    ensures has_room { HasRoom (widest loaded.now.shapes.now.items) 0 ring.new }
 {
     let place = now.place;
-    let word = match program.words.as_slice().get(place as usize) {
+    let word = match loaded.program.words.as_slice().get(place as usize) {
         Some(word) => word,
         None => return Some(Ended::Stuck(Reason::BadTarget, place)),
     };
-    let shape = shape_at(shapes, place);
-    if let Some(reason) = stuck_by(program, now, word, shape) {
+    let shape = shape_at(loaded.shapes, place);
+    if let Some(reason) = stuck_by(loaded.program, now, word, shape) {
         return Some(Ended::Stuck(reason, place));
     }
-    match print(program, now, word.ops.as_slice(), shape.counts.memory, out) {
+    match print(
+        loaded.program,
+        now,
+        word.ops.as_slice(),
+        shape.counts.memory,
+        out,
+    ) {
         Ok(()) => ended_by(pass(
-            program,
-            machine,
+            loaded,
             now,
             ring,
             issued,
@@ -86,8 +97,7 @@ fn ended_by(lead: Lead) -> Option<Ended>
 
 /// A word that is not stuck and whose text is put takes effect, and is shown to each probe.
 fn pass(
-    program: &WordProgram,
-    machine: &Machine,
+    loaded: &Loaded,
     now: &mut Standing,
     ring: &mut Ring,
     issued: &mut u64,
@@ -96,22 +106,22 @@ fn pass(
     timing: &mut Box<dyn Timing>,
     probes: &mut Vec<Box<dyn Probe>>,
 ) -> Lead
-    requires sound { is_sound program.now ≡ true }
-    requires size { program.now.memory ≡ 4 * length now.old.memory.items }
+    requires sound { is_sound loaded.now.program.now ≡ true }
+    requires size { loaded.now.program.now.memory ≡ 4 * length now.old.memory.items }
     requires room { (widest : ℕ) × (length word.now.ops ≤ widest) × HasRoom widest 0 ring.old }
-    requires word { slice_get program.now.words now.old.place ≡ Some word.now }
+    requires word { slice_get loaded.now.program.now.words now.old.place ≡ Some word.now }
     requires counts { counts.now ≡ counts_of word.now.ops }
-    requires free { stuck_by machine.now program.now (state_of now.old []) word.now.ops ≡ None }
-    ensures took { Took machine.now program.now (standing_at now.old (flying_of ring.old) (times timing.old)) (state_of now.new (flying_of ring.new)) (times timing.old) (times timing.new) (map (λ b. watch b) probes.old.items) (map (λ b. watch b) probes.new.items) issued.old issued.new (leads_by result) }
+    requires free { stuck_by loaded.now.machine.now loaded.now.program.now (state_of now.old []) word.now.ops ≡ None }
+    ensures took { Took loaded.now.machine.now loaded.now.program.now (standing_at now.old (flying_of ring.old) (times timing.old)) (state_of now.new (flying_of ring.new)) (times timing.old) (times timing.new) (map (λ b. watch b) probes.old.items) (map (λ b. watch b) probes.new.items) issued.old issued.new (leads_by result) }
     ensures size_stays { length now.new.memory.items ≡ length now.old.memory.items }
     ensures has_room { (widest : ℕ) → length word.now.ops ≤ widest → HasRoom widest 0 ring.old → HasRoom widest 0 ring.new }
 {
-    let next = following(program, now.place);
+    let next = following(loaded.program, now.place);
     let lead = lead_of_word(now, next, word.ops.as_slice(), counts.control);
     let event = event_of(now, counts, lead);
     take_effect(
-        machine,
-        program.memory,
+        loaded.machine,
+        loaded.program.memory,
         now,
         ring,
         word,

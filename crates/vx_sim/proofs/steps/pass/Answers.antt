@@ -15,10 +15,10 @@ pub take_effect-requires-clause-touches : goal.take_effect-requires-clause-touch
 take_effect-requires-clause-touches g c = ap (λ (counts : UnitCounts). counts.memory) c.requires.counts
 
 pub take_effect-requires-clause-named : goal.take_effect-requires-clause-named
-take_effect-requires-clause-named g c = names_at c.args.program.now c.args.now.now.place c.args.word.now c.requires.sound c.requires.word
+take_effect-requires-clause-named g c = names_at c.args.loaded.now.program.now c.args.now.now.place c.args.word.now c.requires.sound c.requires.word
 
 pub take_effect-requires-clause-good : goal.take_effect-requires-clause-good
-take_effect-requires-clause-good g c = has_good_addresses c.args.machine.now c.args.program.now (state_of c.args.now.now []) c.args.word.now.ops c.requires.free
+take_effect-requires-clause-good g c = has_good_addresses c.args.loaded.now.machine.now c.args.loaded.now.program.now (state_of c.args.now.now []) c.args.word.now.ops c.requires.free
 
 pub returns-clause-took : goal.returns-clause-took
 returns-clause-took g c =
@@ -27,7 +27,7 @@ returns-clause-took g c =
     let timing = (goal.Timing-dyn g (c.args.timing.now.vtable, c.args.timing.now.value)).times c.args.timing.now.value in
     let led = c.lead_of_word-lead.ensures ∙ ap (lead_of b) c.as_slice.ensures in
     let e = c.take_effect.ensures in
-    took c.args.machine.now c.args.program.now timing _ b (flying_of c.args.ring.now) c.args.word.now c.lead_of_word-lead.result _ _ _ _ _ c.requires.word c.requires.free led
+    took c.args.loaded.now.machine.now c.args.loaded.now.program.now timing _ b (flying_of c.args.ring.now) c.args.word.now c.lead_of_word-lead.result _ _ _ _ _ c.requires.word c.requires.free led
     (record {
       place = c.place_behind-now.ensures ∙ ap (λ l. place_behind l c.take_effect.new.now.place) led ∙ ap (place_behind (lead_of b c.args.word.now.ops)) e.place;
       cycle = e.cycle;
@@ -46,7 +46,7 @@ pub lead_of_word-lead-requires-clause-control : goal.lead_of_word-lead-requires-
 lead_of_word-lead-requires-clause-control g c = ap (λ (counts : UnitCounts). counts.control) c.requires.counts ∙ ap (λ (ops : List Operation). count_by is_control ops) (sym c.as_slice.ensures)
 
 pub following-next-requires : goal.following-next-requires
-following-next-requires g c = place_below c.args.program.now.words c.args.now.now.place c.args.word.now c.requires.word
+following-next-requires g c = place_below c.args.loaded.now.program.now.words c.args.now.now.place c.args.word.now c.requires.word
 
 pub lead_of_word-lead-requires-clause-following : goal.lead_of_word-lead-requires-clause-following
 lead_of_word-lead-requires-clause-following g c = c.following-next.ensures

@@ -19,14 +19,14 @@ use Rattle.vx_sim.proofs.steps.step.Goals as goal
 
 pub returns-in-Ok-clause-stepped : goal.returns-in-Ok-clause-stepped
 returns-in-Ok-clause-stepped g c =
-    let m = c.args.machine.now in
-    let w = c.args.program.now in
+    let m = c.args.loaded.now.machine.now in
+    let w = c.args.loaded.now.program.now in
     let b = state_of c.args.now.now [] in
     let t = (goal.Timing-dyn g (c.args.timing.now.vtable, c.args.timing.now.value)).times c.args.timing.now.value in
     let word = c.in-Some.word.now in
     let l = c.in-Some.ensures.lookup in
     let at = item_here w.words c.as_slice.result.now c.args.now.now.place word c.as_slice.ensures (sym l.0) l.1 in
-    let shape_is : c.shape_at-shape.result.now ≡ shape_of m word = found m w.words c.args.now.now.place word c.args.shapes.now.items c.shape_at-shape.result.now c.shape_at-shape.ensures c.requires.tested at in
+    let shape_is : c.shape_at-shape.result.now ≡ shape_of m word = found m w.words c.args.now.now.place word c.args.loaded.now.shapes.now.items c.shape_at-shape.result.now c.shape_at-shape.ensures c.requires.tested at in
     let free : stuck_by m w b word.ops ≡ None = sym (c.stuck_by.ensures m shape_is) ∙ c.in_default.is in
     let took = c.pass.ensures.took in
     let earlier = g.K.Sink.told c.args.out.now in
@@ -36,15 +36,15 @@ returns-in-Ok-clause-stepped g c =
 
 pub returns-in-Err-clause-stepped : goal.returns-in-Err-clause-stepped
 returns-in-Err-clause-stepped g c =
-    let m = c.args.machine.now in
-    let w = c.args.program.now in
+    let m = c.args.loaded.now.machine.now in
+    let w = c.args.loaded.now.program.now in
     let b = state_of c.args.now.now [] in
     let t = (goal.Timing-dyn g (c.args.timing.now.vtable, c.args.timing.now.value)).times c.args.timing.now.value in
     let ws = flying_of c.args.ring.now in
     let word = c.in-Some.word.now in
     let l = c.in-Some.ensures.lookup in
     let at = item_here w.words c.as_slice.result.now c.args.now.now.place word c.as_slice.ensures (sym l.0) l.1 in
-    let shape_is : c.shape_at-shape.result.now ≡ shape_of m word = found m w.words c.args.now.now.place word c.args.shapes.now.items c.shape_at-shape.result.now c.shape_at-shape.ensures c.requires.tested at in
+    let shape_is : c.shape_at-shape.result.now ≡ shape_of m word = found m w.words c.args.now.now.place word c.args.loaded.now.shapes.now.items c.shape_at-shape.result.now c.shape_at-shape.ensures c.requires.tested at in
     let free : stuck_by m w b word.ops ≡ None = sym (c.stuck_by.ensures m shape_is) ∙ c.in_default.is in
     let it = takes_it m w (list_of t) b ws t.place word at free in
     record {
@@ -57,69 +57,69 @@ returns-in-Err-clause-stepped g c =
 
 pub shape_at-shape-requires : goal.shape_at-shape-requires
 shape_at-shape-requires g c =
-    let w = c.args.program.now in
+    let w = c.args.loaded.now.program.now in
     let word = c.in-Some.word.now in
     let l = c.in-Some.ensures.lookup in
     let at = item_here w.words c.as_slice.result.now c.args.now.now.place word c.as_slice.ensures (sym l.0) l.1 in
-    found_below c.args.machine.now w.words c.args.now.now.place word c.args.shapes.now.items c.requires.tested at
+    found_below c.args.loaded.now.machine.now w.words c.args.now.now.place word c.args.loaded.now.shapes.now.items c.requires.tested at
 
 pub pass-requires-clause-counts : goal.pass-requires-clause-counts
 pass-requires-clause-counts g c =
-    let m = c.args.machine.now in
-    let w = c.args.program.now in
+    let m = c.args.loaded.now.machine.now in
+    let w = c.args.loaded.now.program.now in
     let word = c.in-Some.word.now in
     let l = c.in-Some.ensures.lookup in
     let at = item_here w.words c.as_slice.result.now c.args.now.now.place word c.as_slice.ensures (sym l.0) l.1 in
-    let shape_is : c.shape_at-shape.result.now ≡ shape_of m word = found m w.words c.args.now.now.place word c.args.shapes.now.items c.shape_at-shape.result.now c.shape_at-shape.ensures c.requires.tested at in
+    let shape_is : c.shape_at-shape.result.now ≡ shape_of m word = found m w.words c.args.now.now.place word c.args.loaded.now.shapes.now.items c.shape_at-shape.result.now c.shape_at-shape.ensures c.requires.tested at in
     ap (λ (s : Shape). s.counts) shape_is
 
 pub stuck_by-requires : goal.stuck_by-requires
 stuck_by-requires g c =
-    let m = c.args.machine.now in
-    let w = c.args.program.now in
+    let m = c.args.loaded.now.machine.now in
+    let w = c.args.loaded.now.program.now in
     let word = c.in-Some.word.now in
     let l = c.in-Some.ensures.lookup in
     let at = item_here w.words c.as_slice.result.now c.args.now.now.place word c.as_slice.ensures (sym l.0) l.1 in
-    let shape_is : c.shape_at-shape.result.now ≡ shape_of m word = found m w.words c.args.now.now.place word c.args.shapes.now.items c.shape_at-shape.result.now c.shape_at-shape.ensures c.requires.tested at in
+    let shape_is : c.shape_at-shape.result.now ≡ shape_of m word = found m w.words c.args.now.now.place word c.args.loaded.now.shapes.now.items c.shape_at-shape.result.now c.shape_at-shape.ensures c.requires.tested at in
     ap (λ (s : Shape). s.counts) shape_is
 
 pub print-requires : goal.print-requires
 print-requires g c =
-    let m = c.args.machine.now in
-    let w = c.args.program.now in
+    let m = c.args.loaded.now.machine.now in
+    let w = c.args.loaded.now.program.now in
     let word = c.in-Some.word.now in
     let l = c.in-Some.ensures.lookup in
     let at = item_here w.words c.as_slice.result.now c.args.now.now.place word c.as_slice.ensures (sym l.0) l.1 in
-    let shape_is : c.shape_at-shape.result.now ≡ shape_of m word = found m w.words c.args.now.now.place word c.args.shapes.now.items c.shape_at-shape.result.now c.shape_at-shape.ensures c.requires.tested at in
+    let shape_is : c.shape_at-shape.result.now ≡ shape_of m word = found m w.words c.args.now.now.place word c.args.loaded.now.shapes.now.items c.shape_at-shape.result.now c.shape_at-shape.ensures c.requires.tested at in
     ap (λ (s : Shape). s.counts.memory) shape_is ∙ ap (λ (ops : List Operation). count_by (is_of Memory) ops) (sym c.as_slice-2.ensures)
 
 pub pass-requires-clause-room : goal.pass-requires-clause-room
 pass-requires-clause-room g c =
-    let m = c.args.machine.now in
-    let w = c.args.program.now in
+    let m = c.args.loaded.now.machine.now in
+    let w = c.args.loaded.now.program.now in
     let b = state_of c.args.now.now [] in
     let word = c.in-Some.word.now in
     let l = c.in-Some.ensures.lookup in
     let at = item_here w.words c.as_slice.result.now c.args.now.now.place word c.as_slice.ensures (sym l.0) l.1 in
-    let shape_is : c.shape_at-shape.result.now ≡ shape_of m word = found m w.words c.args.now.now.place word c.args.shapes.now.items c.shape_at-shape.result.now c.shape_at-shape.ensures c.requires.tested at in
+    let shape_is : c.shape_at-shape.result.now ≡ shape_of m word = found m w.words c.args.now.now.place word c.args.loaded.now.shapes.now.items c.shape_at-shape.result.now c.shape_at-shape.ensures c.requires.tested at in
     let free : stuck_by m w b word.ops ≡ None = sym (c.stuck_by.ensures m shape_is) ∙ c.in_default.is in
-    (widest c.args.shapes.now.items, widest_at m w b c.args.now.now.place word c.args.shapes.now.items c.requires.tested at free, c.requires.room)
+    (widest c.args.loaded.now.shapes.now.items, widest_at m w b c.args.now.now.place word c.args.loaded.now.shapes.now.items c.requires.tested at free, c.requires.room)
 
 pub returns-in-Ok-clause-has_room : goal.returns-in-Ok-clause-has_room
 returns-in-Ok-clause-has_room g c =
-    let m = c.args.machine.now in
-    let w = c.args.program.now in
+    let m = c.args.loaded.now.machine.now in
+    let w = c.args.loaded.now.program.now in
     let b = state_of c.args.now.now [] in
     let word = c.in-Some.word.now in
     let l = c.in-Some.ensures.lookup in
     let at = item_here w.words c.as_slice.result.now c.args.now.now.place word c.as_slice.ensures (sym l.0) l.1 in
-    let shape_is : c.shape_at-shape.result.now ≡ shape_of m word = found m w.words c.args.now.now.place word c.args.shapes.now.items c.shape_at-shape.result.now c.shape_at-shape.ensures c.requires.tested at in
+    let shape_is : c.shape_at-shape.result.now ≡ shape_of m word = found m w.words c.args.now.now.place word c.args.loaded.now.shapes.now.items c.shape_at-shape.result.now c.shape_at-shape.ensures c.requires.tested at in
     let free : stuck_by m w b word.ops ≡ None = sym (c.stuck_by.ensures m shape_is) ∙ c.in_default.is in
-    c.pass.ensures.has_room (widest c.args.shapes.now.items) (widest_at m w b c.args.now.now.place word c.args.shapes.now.items c.requires.tested at free) c.requires.room
+    c.pass.ensures.has_room (widest c.args.loaded.now.shapes.now.items) (widest_at m w b c.args.now.now.place word c.args.loaded.now.shapes.now.items c.requires.tested at free) c.requires.room
 
 pub pass-requires-clause-word : goal.pass-requires-clause-word
 pass-requires-clause-word g c =
-    let w = c.args.program.now in
+    let w = c.args.loaded.now.program.now in
     let word = c.in-Some.word.now in
     let l = c.in-Some.ensures.lookup in
     let at = item_here w.words c.as_slice.result.now c.args.now.now.place word c.as_slice.ensures (sym l.0) l.1 in
@@ -127,36 +127,36 @@ pass-requires-clause-word g c =
 
 pub pass-requires-clause-free : goal.pass-requires-clause-free
 pass-requires-clause-free g c =
-    let m = c.args.machine.now in
-    let w = c.args.program.now in
+    let m = c.args.loaded.now.machine.now in
+    let w = c.args.loaded.now.program.now in
     let b = state_of c.args.now.now [] in
     let word = c.in-Some.word.now in
     let l = c.in-Some.ensures.lookup in
     let at = item_here w.words c.as_slice.result.now c.args.now.now.place word c.as_slice.ensures (sym l.0) l.1 in
-    let shape_is : c.shape_at-shape.result.now ≡ shape_of m word = found m w.words c.args.now.now.place word c.args.shapes.now.items c.shape_at-shape.result.now c.shape_at-shape.ensures c.requires.tested at in
+    let shape_is : c.shape_at-shape.result.now ≡ shape_of m word = found m w.words c.args.now.now.place word c.args.loaded.now.shapes.now.items c.shape_at-shape.result.now c.shape_at-shape.ensures c.requires.tested at in
     sym (c.stuck_by.ensures m shape_is) ∙ c.in_default.is
 
 pub returns-in-Some-stuck_by-clause-stepped : goal.returns-in-Some-stuck_by-clause-stepped
 returns-in-Some-stuck_by-clause-stepped g c =
-    let m = c.args.machine.now in
-    let w = c.args.program.now in
+    let m = c.args.loaded.now.machine.now in
+    let w = c.args.loaded.now.program.now in
     let b = state_of c.args.now.now [] in
     let t = (goal.Timing-dyn g (c.args.timing.now.vtable, c.args.timing.now.value)).times c.args.timing.now.value in
     let watches = map (λ p. (goal.Probe-dyn g (p.vtable, p.value)).watch p.value) c.args.probes.now.items in
     let word = c.in-Some.word.now in
     let l = c.in-Some.ensures.lookup in
     let at = item_here w.words c.as_slice.result.now c.args.now.now.place word c.as_slice.ensures (sym l.0) l.1 in
-    let shape_is : c.shape_at-shape.result.now ≡ shape_of m word = found m w.words c.args.now.now.place word c.args.shapes.now.items c.shape_at-shape.result.now c.shape_at-shape.ensures c.requires.tested at in
+    let shape_is : c.shape_at-shape.result.now ≡ shape_of m word = found m w.words c.args.now.now.place word c.args.loaded.now.shapes.now.items c.shape_at-shape.result.now c.shape_at-shape.ensures c.requires.tested at in
     refused m w t b (flying_of c.args.ring.now) watches c.args.issued.now (g.K.Sink.told c.args.out.now) word c.in-Some-stuck_by.reason at (sym (c.stuck_by.ensures m shape_is) ∙ c.in-Some-stuck_by.is)
 
 pub returns-in-None-clause-stepped : goal.returns-in-None-clause-stepped
 returns-in-None-clause-stepped g c =
-    let m = c.args.machine.now in
-    let w = c.args.program.now in
+    let m = c.args.loaded.now.machine.now in
+    let w = c.args.loaded.now.program.now in
     let b = state_of c.args.now.now [] in
     let t = (goal.Timing-dyn g (c.args.timing.now.vtable, c.args.timing.now.value)).times c.args.timing.now.value in
     let watches = map (λ p. (goal.Probe-dyn g (p.vtable, p.value)).watch p.value) c.args.probes.now.items in
-    refused_here c.args.machine.now w t b (flying_of c.args.ring.now) watches c.args.issued.now (g.K.Sink.told c.args.out.now) (none_here w.words c.as_slice.result.now c.args.now.now.place c.as_slice.ensures (sym c.in-None.ensures.lookup.0))
+    refused_here c.args.loaded.now.machine.now w t b (flying_of c.args.ring.now) watches c.args.issued.now (g.K.Sink.told c.args.out.now) (none_here w.words c.as_slice.result.now c.args.now.now.place c.as_slice.ensures (sym c.in-None.ensures.lookup.0))
 
 pub returns-in-Some-stuck_by-clause-failed : goal.returns-in-Some-stuck_by-clause-failed
 returns-in-Some-stuck_by-clause-failed g c = not_true
