@@ -4,4 +4,5 @@ mod ReadsLaw
 mod DescriptionRows
 mod MarksLaw
 pub mod Counts
-mod Ports
+pub mod LeftSteps
+pub mod Covered

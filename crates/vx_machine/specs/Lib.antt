@@ -1,2 +1,4 @@
 pub mod Descriptions
 pub mod Marks
+pub mod Resources
+pub mod Left

@@ -5,9 +5,12 @@ ghost use Rattle.std.specs.Prelude.{◌≡◌, ◌≤◌, ◌++◌, ◌&&◌, no
 ghost use Rattle.std.specs.List.{list_all};
 ghost use Rattle.vx_isa.specs.declared.operation.UnitKind.TheVariants.{Copies};
 ghost use Rattle.vx_isa.specs.Operations.{cluster_of, list_of, reads_of, destination_of, is_control, is_lone, is_observable};
-ghost use Rattle.vx_isa.specs.Fits.{count_on, is_of, takes_read_port, takes_write_port, reads_on, writes_on, fits_cluster, is_in_file, operands, destinations, stands_on, all_below, fits_control, fits};
+ghost use Rattle.vx_isa.specs.Fits.{is_of, takes_read_port, takes_write_port, fits_cluster, is_in_file, operands, destinations, stands_on, all_below, fits_control, fits};
+ghost use Rattle.vx_machine.specs.Left.{fits_left, need_of};
+ghost use Rattle.vx_machine.specs.Resources.{FitsWhereCovered};
 
 use crate::Machine;
+use crate::left::{Left, covers, less, limits};
 use vx_isa::operation::{Operation, Register, UnitKind};
 use vx_isa::program::Word;
 
@@ -19,6 +22,13 @@ pub fn fits(machine: &Machine, word: &Word) -> bool
     machine.keeps_ranges();
     stands_on(machine, ops) && fits_clusters(machine, ops) && fits_whole(machine, ops)
 }
+
+/// A word fits exactly where the machine has of each resource what the operations take together, and the registers that they name, and
+/// no control operation that stands alone is beside another.
+#[tactic(auto, using(crate::proofs::Covered::fits_where_covered))]
+pub fn fits_where_covered_law()
+    ensures { FitsWhereCovered }
+{}
 
 /// Whether the whole word has its copy paths and control places, and at most one observable operation.
 fn fits_whole(machine: &Machine, ops: &[Operation]) -> bool
@@ -132,36 +142,37 @@ fn fits_clusters(machine: &Machine, ops: &[Operation]) -> bool
 fn fits_cluster(machine: &Machine, ops: &[Operation], cluster: u32) -> bool
     ensures { result ≡ fits_cluster machine.now ops.now cluster }
 {
-    count_on(ops, cluster) <= machine.issue() as usize
-        && count_of_on(ops, UnitKind::Alu, cluster) <= machine.alus() as usize
-        && count_of_on(ops, UnitKind::Multiply, cluster) <= machine.multipliers() as usize
-        && count_of_on(ops, UnitKind::Memory, cluster) <= machine.memory_units() as usize
-        && reads_fit(ops, cluster, machine.read_ports())
-        && writes_fit(ops, cluster, machine.write_ports())
+    fits_left(limits(machine), cluster, ops)
 }
 
-fn count_on(ops: &[Operation], cluster: u32) -> usize
-    ensures { result ≡ count_on cluster (λ op. true) ops.now }
+/// Whether the operations take no more of a cluster than is left.
+fn fits_left(limits: Left, cluster: u32, ops: &[Operation]) -> bool
+    ensures { result ≡ fits_left (need_of cluster) limits ops.now }
 {
-    let mut count = 0;
+    let mut left = limits;
     for op in ops {
-        if op.cluster() == cluster {
-            count += 1;
+        let need = need_of(cluster, op);
+        if !covers(left, need) {
+            return false;
         }
+        left = less(left, need);
     }
-    count
+    true
 }
 
-fn count_of_on(ops: &[Operation], unit: UnitKind, cluster: u32) -> usize
-    ensures { result ≡ count_on cluster (is_of unit) ops.now }
+/// What an operation takes of a cluster.
+fn need_of(cluster: u32, op: &Operation) -> Left
+    ensures { result ≡ need_of cluster op.now }
 {
-    let mut count = 0;
-    for op in ops {
-        if op.cluster() == cluster && is_of(unit, op) {
-            count += 1;
-        }
+    let here = op.cluster() == cluster;
+    Left {
+        slots: u32::from(here),
+        alus: u32::from(here && is_of(UnitKind::Alu, op)),
+        multipliers: u32::from(here && is_of(UnitKind::Multiply, op)),
+        memory_units: u32::from(here && is_of(UnitKind::Memory, op)),
+        read_ports: reads_of_on(op, cluster),
+        write_ports: writes_of_on(op, cluster),
     }
-    count
 }
 
 fn count_of(ops: &[Operation], unit: UnitKind) -> usize
@@ -206,36 +217,7 @@ fn is_of(unit: UnitKind, op: &Operation) -> bool
     op.unit() == unit
 }
 
-/// Whether so many read ports serve the cluster. Register 0 takes none.
-fn reads_fit(ops: &[Operation], cluster: u32, ports: u32) -> bool
-    ensures { result ≡ nat_le (reads_on cluster ops.now) ports }
-{
-    let mut left = ports;
-    for op in ops {
-        let count = reads_of_on(op, cluster);
-        if count > left {
-            return false;
-        }
-        left -= count;
-    }
-    true
-}
-
-/// Whether so many write ports serve the cluster. Register 0 takes one as any other.
-fn writes_fit(ops: &[Operation], cluster: u32, ports: u32) -> bool
-    ensures { result ≡ nat_le (writes_on cluster ops.now) ports }
-{
-    let mut left = ports;
-    for op in ops {
-        let count = writes_of_on(op, cluster);
-        if count > left {
-            return false;
-        }
-        left -= count;
-    }
-    true
-}
-
+/// How many read ports of the cluster it takes. Register 0 takes none.
 fn reads_of_on(op: &Operation, cluster: u32) -> u32
     ensures { result ≡ count_by (takes_read_port cluster) (reads_of op.now) }
 {
@@ -253,6 +235,7 @@ fn read_ports_of(named: Option<Register>, cluster: u32) -> u32
     }
 }
 
+/// How many write ports of the cluster it takes. Register 0 takes one as any other.
 fn writes_of_on(op: &Operation, cluster: u32) -> u32
     ensures { result ≡ count_by (takes_write_port cluster) (list_of (destination_of op.now)) }
 {

@@ -4,3 +4,4 @@ mod RoomLaw
 mod RoomAlone
 mod FitsByRoom
 mod RoomRows
+mod Covered

@@ -2,7 +2,9 @@
 #![tactic(auto)]
 
 pub mod items;
-mod left;
 mod room;
 
-pub use room::{fits_by_room_law, has_room, home_of, room_alone_law, room_law, room_shrinks_law};
+pub use room::{
+    fits_by_room_law, has_room, home_of, room_alone_law, room_law, room_shrinks_law,
+    room_where_covered_law,
+};

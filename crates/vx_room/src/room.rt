@@ -8,14 +8,16 @@ ghost use Rattle.vx_isa.specs.Fits.{all_below};
 ghost use Rattle.vx_room.specs.Needs.{FitsByRoom};
 ghost use Rattle.vx_room.specs.Items.{is_split, is_observable_item};
 ghost use Rattle.vx_room.specs.Room.{home_of, source_of, read_clusters, is_at, needs, reads_at, count_in, has_room_at, stands_well, is_cluster, stand_well, has_room, RoomAlone, RoomInWords, RoomShrinks};
-ghost use Rattle.vx_room.specs.Left.{need_of, fits_left};
+ghost use Rattle.vx_machine.specs.Left.{fits_left};
+ghost use Rattle.vx_room.specs.Left.{need_of};
+ghost use Rattle.vx_room.specs.Takes.{RoomWhereCovered};
 
 use crate::items::{ClusteredItem, Item};
-use crate::left::{Left, covers, less, limits};
 use vx_flow::graph::{Op, Value};
 use vx_flow::trace::Homes;
 use vx_isa::operation::UnitKind;
 use vx_machine::Machine;
+use vx_machine::left::{Left, covers, less, limits};
 
 /// Whether the items can stand in one word of the machine: each cluster has slots, units and ports for them, the
 /// machine has the copy paths, at most as many splits as it has branches and at most one observable operation are there, and
@@ -35,6 +37,13 @@ pub fn has_room(machine: &Machine, homes: &Homes, items: &[ClusteredItem]) -> bo
 #[tactic(auto, using(crate::proofs::RoomLaw::room_in_words))]
 pub fn room_law()
     ensures { RoomInWords }
+{}
+
+/// Items have room exactly where the machine has of each resource what they take together, what they read has a cluster, and splits
+/// and observable operations stand on cluster 0.
+#[tactic(auto, using(crate::proofs::Covered::room_where_covered))]
+pub fn room_where_covered_law()
+    ensures { RoomWhereCovered }
 {}
 
 /// More items never make room.
@@ -198,7 +207,7 @@ fn has_room_at(machine: &Machine, homes: &Homes, items: &[ClusteredItem], cluste
 
 /// Whether the items take no more of a cluster than is left.
 fn fits_left(limits: Left, homes: &Homes, cluster: u32, items: &[ClusteredItem]) -> bool
-    ensures { result ≡ fits_left limits homes.now cluster items.now }
+    ensures { result ≡ fits_left (need_of homes.now cluster) limits items.now }
 {
     let mut left = limits;
     for x in items {

@@ -1,9 +1,9 @@
-// What a cluster has left in a word for further items, and what an item takes of it.
+// What a cluster has left in a word, and what something takes of it: the test of words (fit.rt) and that for room (vx_room) count by it.
 
 ghost use Rattle.std.specs.Prelude.{◌≡◌, true};
-ghost use Rattle.vx_room.specs.Left.{limits, covers, less};
+ghost use Rattle.vx_machine.specs.Left.{limits, covers, less};
 
-use vx_machine::Machine;
+use crate::Machine;
 
 /// Slots, units and ports of a cluster.
 #[derive(Clone, Copy)]
