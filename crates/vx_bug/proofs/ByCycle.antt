@@ -5,10 +5,11 @@ use Rattle.std.proofs.lemmas.List.{get_or_past, get_or-drop, get_or-set_same, ge
 use Rattle.std.proofs.lemmas.List.Sums.{sum_by-append, sum_by-cons}
 use Rattle.vx_isa.specs.declared.operation.UnitKind.{UnitKind}
 use Rattle.vx_isa.specs.Numbers.{Numbers}
+use Rattle.vx_machine.specs.Resources.{units_of}
 use Rattle.vx_bug.specs.declared.bookings.Booking.{Booking}
 use Rattle.vx_bug.specs.declared.bookings.Resource.TheVariants.{IssueSlot, UnitOf}
 use Rattle.vx_bug.specs.Booked.{row_at, AreRows}
-use Rattle.vx_bug.specs.Clusters.{units_of, is_free, first_free}
+use Rattle.vx_bug.specs.Clusters.{is_free, first_free}
 use Rattle.vx_bug.specs.Ledgers.{takes, is_left}
 
 -- rows

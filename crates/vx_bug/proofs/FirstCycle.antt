@@ -8,11 +8,12 @@ use Rattle.vx_isa.specs.declared.operation.UnitKind.TheVariants.{Alu, Multiply, 
 use Rattle.vx_isa.specs.Numbers.{Numbers, IsMachine}
 use Rattle.vx_isa.specs.Operations.{same_unit}
 use Rattle.vx_isa.proofs.Ranges.{Ranges, ranges}
+use Rattle.vx_machine.specs.Resources.{units_of}
 use Rattle.vx_room.specs.Items.{item_of, unit_of_item}
 use Rattle.vx_dep.specs.Delays.{reads_of}
 use Rattle.vx_dep.specs.Compensation.{greatest}
 use Rattle.vx_bug.specs.declared.bookings.Booking.{Booking}
-use Rattle.vx_bug.specs.Clusters.{units_of, counts_at, available, is_free, first_free}
+use Rattle.vx_bug.specs.Clusters.{counts_at, available, is_free, first_free}
 use Rattle.vx_bug.specs.FirstFree.{IsFirstFree, FirstIsFree}
 
 -- counting

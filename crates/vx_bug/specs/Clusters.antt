@@ -15,6 +15,7 @@ use Rattle.vx_isa.specs.declared.operation.UnitKind.{UnitKind}
 use Rattle.vx_isa.specs.declared.operation.UnitKind.TheVariants.{Alu, Multiply, Memory, Copies, Control}
 use Rattle.vx_isa.specs.Numbers.{Numbers}
 use Rattle.vx_isa.specs.Operations.{same_unit}
+use Rattle.vx_machine.specs.Resources.{units_of}
 use Rattle.vx_room.specs.Items.{item_of, unit_of_item, is_observable_item, writes_general_op}
 use Rattle.vx_room.specs.Room.{home_of}
 use Rattle.vx_linear.specs.Writers.{writer}
@@ -118,13 +119,6 @@ written_at bookings (Some i) = estimate_in bookings i
 -- the cycle from which a value is there for the operation at place i on a cluster
 abbrev pub available : Numbers → Trace → Books → (i : ℕ) → TraceOp → (cluster v : ℕ) → ℕ
 available m t books i op cluster v = written_at books.bookings (writer t.ops i v) + (if is_across op then 0 else way_from m (books.homes v) cluster)
-
-abbrev pub units_of : Numbers → UnitKind → ℕ
-units_of m Alu = m.alus
-units_of m Multiply = m.multipliers
-units_of m Memory = m.memory_units
-units_of m Copies = m.copy_paths
-units_of m Control = m.branches
 
 -- copy paths and control places are the machine's, whatever the cluster
 abbrev pub counts_at : UnitKind → ℕ → ℕ → Bool

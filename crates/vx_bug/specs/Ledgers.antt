@@ -3,11 +3,12 @@ use Rattle.std.specs.Prelude.{◌==◌, ◌&&◌, ℕ, Bool, nat_lt, if◌then�
 use Rattle.vx_isa.specs.declared.operation.UnitKind.{UnitKind}
 use Rattle.vx_isa.specs.Numbers.{Numbers}
 use Rattle.vx_isa.specs.Operations.{same_unit}
+use Rattle.vx_machine.specs.Resources.{units_of}
 use Rattle.vx_bug.specs.declared.bookings.Booking.{Booking}
 use Rattle.vx_bug.specs.declared.bookings.Resource.{Resource}
 use Rattle.vx_bug.specs.declared.bookings.Resource.TheVariants.{IssueSlot, UnitOf}
 use Rattle.vx_bug.specs.declared.ledger.Ledger.{Ledger}
-use Rattle.vx_bug.specs.Clusters.{Books, counts_at, units_of}
+use Rattle.vx_bug.specs.Clusters.{Books, counts_at}
 
 abbrev pub homes_in : List (Option ℕ) → ℕ → Option ℕ
 homes_in homes v = slice_index_or homes v None

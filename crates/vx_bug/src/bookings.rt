@@ -2,9 +2,8 @@
 // which a slot and a unit are left. specs/Ledgers.antt says the same.
 
 ghost use Rattle.std.specs.Prelude.{◌≡◌, IfOk, length, nat_lt, count_by};
-ghost use Rattle.vx_isa.specs.Operations.{same_unit};
 ghost use Rattle.vx_bug.specs.Booked.{row_at};
-ghost use Rattle.vx_bug.specs.Clusters.{estimate_in, units_of, counts_at, is_free, first_free};
+ghost use Rattle.vx_bug.specs.Clusters.{estimate_in, counts_at, is_free, first_free};
 ghost use Rattle.vx_bug.specs.Ledgers.{takes, is_left};
 
 use crate::booked::{Booked, row_at, rows_from};
@@ -103,7 +102,7 @@ fn are_left(machine: &Machine, cluster: u32, unit: UnitKind, row: &[Booking]) ->
     is_left(taking(row, cluster, Resource::IssueSlot), machine.issue())
         && is_left(
             taking(row, cluster, Resource::UnitOf(unit)),
-            units_of(machine, unit),
+            machine.units(unit),
         )
 }
 
@@ -126,18 +125,6 @@ fn is_left(taken: usize, there: u32) -> bool
     taken < there as usize
 }
 
-fn units_of(machine: &Machine, unit: UnitKind) -> u32
-    ensures { result ≡ units_of machine.now unit }
-{
-    match unit {
-        UnitKind::Alu => machine.alus(),
-        UnitKind::Multiply => machine.multipliers(),
-        UnitKind::Memory => machine.memory_units(),
-        UnitKind::Copies => machine.copy_paths(),
-        UnitKind::Control => machine.branches(),
-    }
-}
-
 /// Whether a booking takes a resource of a cluster.
 fn takes(booking: &Booking, cluster: u32, resource: Resource) -> bool
     ensures { result ≡ takes cluster resource booking.now }
@@ -145,21 +132,8 @@ fn takes(booking: &Booking, cluster: u32, resource: Resource) -> bool
     match resource {
         Resource::IssueSlot => booking.cluster == cluster,
         Resource::UnitOf(unit) => {
-            same_unit(booking.unit, unit) && counts_at(unit, cluster, booking.cluster)
+            booking.unit == unit && counts_at(unit, cluster, booking.cluster)
         }
-    }
-}
-
-fn same_unit(one: UnitKind, other: UnitKind) -> bool
-    ensures { result ≡ same_unit one other }
-{
-    match (one, other) {
-        (UnitKind::Alu, UnitKind::Alu)
-        | (UnitKind::Multiply, UnitKind::Multiply)
-        | (UnitKind::Memory, UnitKind::Memory)
-        | (UnitKind::Copies, UnitKind::Copies)
-        | (UnitKind::Control, UnitKind::Control) => true,
-        _ => false,
     }
 }
 

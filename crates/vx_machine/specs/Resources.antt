@@ -1,6 +1,7 @@
 -- What words take of a machine and what a machine has: a number for each of its resources.
 use Rattle.std.specs.Prelude.{◌≡◌, ◌↔◌, ◌⊎◌, ◌≤◌, ◌+◌, All, ℕ, Bool, true, false, ◌&&◌, ◌==◌, if◌then◌else◌, List, [], ◌∷◌, ◌++◌, count_by}
-use Rattle.vx_isa.specs.declared.operation.UnitKind.TheVariants.{Alu, Multiply, Memory, Copies}
+use Rattle.vx_isa.specs.declared.operation.UnitKind.{UnitKind}
+use Rattle.vx_isa.specs.declared.operation.UnitKind.TheVariants.{Alu, Multiply, Memory, Copies, Control}
 use Rattle.vx_isa.specs.declared.operation.Operation.{Operation}
 use Rattle.vx_isa.specs.Numbers.{Numbers, IsMachine}
 use Rattle.vx_isa.specs.Operations.{cluster_of, reads_of, list_of, destination_of, is_control, is_lone, is_observable}
@@ -29,6 +30,14 @@ capacity m (WritePorts k) = has m k m.write_ports
 capacity m CopyPaths = m.copy_paths
 capacity m ControlPlaces = m.branches
 capacity m Observables = 1
+
+-- how many units of a kind a machine has: copy paths and control places are the machine's, the others each cluster's
+abbrev pub units_of : Numbers → UnitKind → ℕ
+units_of m Alu = m.alus
+units_of m Multiply = m.multipliers
+units_of m Memory = m.memory_units
+units_of m Copies = m.copy_paths
+units_of m Control = m.branches
 
 -- so much is there of each resource
 abbrev pub Covers : (Resource → ℕ) → (Resource → ℕ) → Type 0

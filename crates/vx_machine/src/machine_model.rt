@@ -5,10 +5,11 @@ ghost use Rattle.std.specs.Prelude.{◌≡◌, ◌≤◌};
 ghost use Rattle.vx_isa.specs.Numbers.{IsMachine, vex};
 ghost use Rattle.vx_isa.specs.Machine.{branches_of};
 ghost use Rattle.vx_isa.specs.Operations.{latency_of_code, latency_of};
+ghost use Rattle.vx_machine.specs.Resources.{units_of};
 
 use std::marker::Model;
 use vx_base::arithmetic::Code;
-use vx_isa::operation::Operation;
+use vx_isa::operation::{Operation, UnitKind};
 
 /// The numbers of a machine. All counts but `clusters`, `copy_paths` and `branches` are per cluster.
 #[derive(Clone, Copy)]
@@ -250,6 +251,19 @@ impl Machine {
         ensures { result ≡ self.now.branches }
     {
         self.branches
+    }
+
+    /// How many units of a kind there are: of the machine for copy paths and control places, else of a cluster.
+    pub fn units(&self, unit: UnitKind) -> u32
+        ensures { result ≡ units_of self.now unit }
+    {
+        match unit {
+            UnitKind::Alu => self.alus,
+            UnitKind::Multiply => self.multipliers,
+            UnitKind::Memory => self.memory_units,
+            UnitKind::Copies => self.copy_paths,
+            UnitKind::Control => self.branches,
+        }
     }
 
     /// The machine that words of a version are issued by: those of version 1 have at most one branch each, on every machine.

@@ -2,8 +2,9 @@
 -- or all the copy paths, has no room for it.
 use Rattle.std.specs.Prelude.{◌||◌, ◌==◌, ℕ, Bool, false, nat_le, List, count_by}
 use Rattle.vx_isa.specs.declared.operation.UnitKind.{UnitKind}
-use Rattle.vx_isa.specs.declared.operation.UnitKind.TheVariants.{Alu, Multiply, Memory, Copies, Control}
+use Rattle.vx_isa.specs.declared.operation.UnitKind.TheVariants.{Copies, Control}
 use Rattle.vx_isa.specs.Numbers.{Numbers}
+use Rattle.vx_machine.specs.Resources.{units_of}
 use Rattle.vx_room.specs.declared.items.ClusteredItem.{ClusteredItem}
 use Rattle.vx_room.specs.Items.{unit_of_item}
 use Rattle.vx_room.specs.Room.{count_at, count_in, needs}
@@ -14,11 +15,9 @@ slots_at k row = count_by (λ x. x.cluster == k) row
 
 -- the row takes all units of this kind that there are for a cluster
 abbrev pub takes_all : Numbers → UnitKind → (cluster : ℕ) → List ClusteredItem → Bool
-takes_all m Alu k row = nat_le m.alus (count_at k (needs Alu) row)
-takes_all m Multiply k row = nat_le m.multipliers (count_at k (needs Multiply) row)
-takes_all m Memory k row = nat_le m.memory_units (count_at k (needs Memory) row)
 takes_all m Copies k row = nat_le m.copy_paths (count_in (needs Copies) row)
 takes_all m Control k row = false
+takes_all m unit k row = nat_le (units_of m unit) (count_at k (needs unit) row)
 
 abbrev pub is_crowded : Numbers → List ClusteredItem → ClusteredItem → Bool
 is_crowded m row x = nat_le m.issue (slots_at x.cluster row) || takes_all m (unit_of_item x.item) x.cluster row

@@ -36,11 +36,9 @@ fn takes_all(machine: &Machine, unit: UnitKind, cluster: u32, row: &[ClusteredIt
     ensures { result ≡ takes_all machine.now unit cluster row.now }
 {
     match unit {
-        UnitKind::Alu => machine.alus() as usize <= units_at(row, cluster, unit),
-        UnitKind::Multiply => machine.multipliers() as usize <= units_at(row, cluster, unit),
-        UnitKind::Memory => machine.memory_units() as usize <= units_at(row, cluster, unit),
         UnitKind::Copies => machine.copy_paths() as usize <= copies_in(row),
         UnitKind::Control => false,
+        _ => machine.units(unit) as usize <= units_at(row, cluster, unit),
     }
 }
 
