@@ -6,7 +6,7 @@ use Rattle.std.proofs.lemmas.List.{at_drop_more}
 use Rattle.vx_flow.specs.declared.graph.Global.{Global}
 use Rattle.vx_isa.specs.Machine.{memory_at_start}
 use Rattle.vx_isa.specs.Sound.{is_not_zero, is_start}
-use Rattle.vx_target.specs.Carried.{first_or_zero}
+use Rattle.vx_target.specs.Frames.{first_or_zero}
 use Rattle.vx_target.specs.Tied.{words_before}
 use Rattle.vx_calls.proofs.Pieces.{placed_more}
 use Rattle.vx_calls.specs.Globals.{begins_from, first_from, firsts_from, is_set, words_in}

@@ -6,7 +6,7 @@ ghost use Rattle.vx_flow.specs.declared.graph.Global.{Global as AGlobal};
 ghost use Rattle.vx_flow.specs.Meaning.{deepest};
 ghost use Rattle.vx_isa.specs.Machine.{memory_at_start};
 ghost use Rattle.vx_isa.specs.Sound.{is_start};
-ghost use Rattle.vx_target.specs.Carried.{first_or_zero};
+ghost use Rattle.vx_target.specs.Frames.{first_or_zero};
 ghost use Rattle.vx_target.specs.Tied.{words_before};
 ghost use Rattle.vx_calls.specs.Globals.{begins_from, first_from, firsts_from, is_set, words_in};
 

@@ -219,8 +219,7 @@ module _ (laws : StageLaws) (p : Program) (flow : Flow) (machine : Numbers) (ls 
           maps = maps;
           kept = subst (λ z. AreMapsOf machine z maps) are kept;
           spilled = in_slots;
-          finished = done;
-          carries = laws.plans machine flow (layouts_of planned.functions) maps x done is.sound (subst AreSpaced are (all_spaced laws.spaced 0 machine flow.functions ls laid));
+          emitted = laws.emits machine flow (layouts_of planned.functions) maps x done is.sound (subst AreSpaced are (all_spaced laws.spaced 0 machine flow.functions ls laid));
           faithful = record {
             same = λ input times all some. (words_do input times (are_numbers input all)).same;
             never_stuck = λ input times all some. (words_do input times (are_numbers input all)).never;

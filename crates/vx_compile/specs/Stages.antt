@@ -25,7 +25,8 @@ use Rattle.vx_region.specs.Regions.{AllReplaced, ReplacesAll}
 use Rattle.vx_target.specs.Carried.{FrameLaw}
 use Rattle.vx_target.specs.declared.finished.Finished.{Finished}
 use Rattle.vx_target.specs.Finish.{Finishes}
-use Rattle.vx_tie.specs.Plans.{PlanLaw, SpacedLaw}
+use Rattle.vx_tie.specs.PlanLaws.{EmittedLaw}
+use Rattle.vx_tie.specs.Plans.{SpacedLaw}
 use Rattle.vx_report.specs.declared.plan.Plan.{Plan}
 use Rattle.vx_isa.specs.Range.{is_in_range}
 use Rattle.vx_compiled.specs.Compiled.{AreMapsOf, Planned, all_in_slots, layouts_of}
@@ -102,7 +103,7 @@ pub record StageLaws : Type 0 where
   pub comes : LayoutComesFromGraph
   pub brief : LayoutIsBrief
   pub frames : FrameLaw
-  pub plans : PlanLaw
+  pub emits : EmittedLaw
   pub spaced : SpacedLaw
   pub paths : PathStrictLaw
   pub timings : AnyTimingLaw

@@ -37,7 +37,7 @@ use vx_regs::registers;
 use vx_report::Plan;
 use vx_rewrite::FlowOptions;
 use vx_target::finished::Finished;
-use vx_tie::laws::{finished_programs_carry_their_plan, layouts_are_spaced};
+use vx_tie::laws::{finished_programs_are_emitted, layouts_are_spaced};
 
 /// Layouts that are finished as words.
 #[derive(Drop)]
@@ -56,7 +56,7 @@ fn stages_do_the_same()
     layouts_keep_the_meaning();
     drains_stay_brief();
     frames_keep_to_the_machine();
-    finished_programs_carry_their_plan();
+    finished_programs_are_emitted();
     layouts_are_spaced();
     path_strict_law();
     any_timing_law();

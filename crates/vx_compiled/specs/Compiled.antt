@@ -23,8 +23,7 @@ use Rattle.vx_regs.specs.declared.map.Kept.{Kept}
 use Rattle.vx_regs.specs.declared.map.Kept.TheVariants.{InRegister, InSlot, Nowhere}
 use Rattle.vx_regs.specs.declared.map.RegMap.{RegMap}
 use Rattle.vx_regs.specs.Mapped.{Mapped}
-use Rattle.vx_target.specs.Finish.{Finishes}
-use Rattle.vx_tie.specs.Plans.{CarriesPlan}
+use Rattle.vx_tie.specs.Emitted.{Emitted}
 use Rattle.vx_report.specs.declared.plan.Plan.{Plan}
 use Rattle.vx_compiled.specs.Faithful.{Faithful}
 
@@ -90,7 +89,7 @@ all_in_slots maps = sum_by (λ (x : RegMap). in_slots x.values) maps
 -- the whole
 
 -- the program has graphs that do what it does, in the shape of their layer; the plan is that of these graphs, by these counts and
--- with this cap on copies; the words are the finished program of its layouts, with values kept where the maps say, and carry the
+-- with this cap on copies; the words are emitted in the order of its layouts, with values kept where the maps say, and carry the
 -- regions of the plan at its places, and nothing else but words of the other kinds; they do what the program does, fit the machine,
 -- and on no path read a register early, and so in no run; and they are a program of words that the word text spells: sound, of the
 -- version that is the number of the machine's branches, with numbers of 32 bits and texts of bytes
@@ -101,8 +100,7 @@ pub record Compiled (p : Program) (counts : Counts) (m : Numbers) (growth : ℕ)
   pub maps : List RegMap
   pub kept : AreMapsOf m (layouts_of planned.functions) maps
   pub spilled : plan.spilled ≡ all_in_slots maps
-  pub finished : Finishes m flow (layouts_of planned.functions) maps (record { program = w; places = plan.places })
-  pub carries : CarriesPlan finished.finished.target (layouts_of planned.functions) plan.places w
+  pub emitted : Emitted m flow (layouts_of planned.functions) maps plan.places w
   pub faithful : Faithful p m w
   pub path_strict : PathStrict m w
   pub strict : Strict m w

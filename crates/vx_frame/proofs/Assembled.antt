@@ -25,7 +25,8 @@ use Rattle.vx_target.specs.declared.finished.Finished.{Finished}
 use Rattle.vx_slots.specs.declared.program.FunctionFrame.{FunctionFrame}
 use Rattle.vx_slots.specs.declared.program.Whole.{Whole}
 use Rattle.vx_target.specs.Target.{Target, is_slotted}
-use Rattle.vx_target.specs.Carried.{room_of, IsMapped, IsSaved, NeedsSlot, is_passed, is_spilled, is_saved, HasWord, IsFramed, Carries}
+use Rattle.vx_target.specs.Frames.{IsSaved, NeedsSlot, is_passed, is_spilled, is_saved, HasWord, IsFramed}
+use Rattle.vx_target.specs.Carried.{room_of, IsMapped, Carries}
 use Rattle.vx_target.specs.Tied.{IsFunction, words_before}
 use Rattle.vx_target.specs.Finish.{CanFinish, AllCanFinish, Finishes}
 use Rattle.vx_tie.specs.Fitted.{SoundLaw}

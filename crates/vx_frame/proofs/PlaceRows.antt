@@ -4,7 +4,7 @@ use Rattle.vx_mixed.specs.declared.layout.VirtualWord.{VirtualWord}
 use Rattle.vx_mixed.specs.declared.layout.VirtualWord.TheVariants.{Planned, Drain, Transfer}
 use Rattle.vx_mixed.specs.declared.layout.VWords.{VWords}
 use Rattle.vx_slots.specs.declared.program.FunctionPlaces.{FunctionPlaces}
-use Rattle.vx_target.specs.Places.{regions_before, places_in}
+use Rattle.vx_target.specs.PlacesIn.{regions_before, places_in}
 use Rattle.vx_frame.specs.Regions.{all_traces}
 
 abbrev layout : List VirtualWord → (regions : ℕ) → VWords

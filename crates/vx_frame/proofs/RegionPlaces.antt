@@ -16,7 +16,8 @@ use Rattle.vx_layout.specs.Numbered.{is_word_of, words_in, IsNumbered}
 use Rattle.vx_target.specs.declared.finished.TracePlaces.{TracePlaces}
 use Rattle.vx_slots.specs.declared.program.FunctionPlaces.{FunctionPlaces}
 use Rattle.vx_target.specs.Target.{Target, before, word_words}
-use Rattle.vx_target.specs.Places.{ArePlaces, plan_place, regions_before, no_words, places_in}
+use Rattle.vx_target.specs.PlacesIn.{regions_before, no_words, places_in}
+use Rattle.vx_target.specs.Places.{ArePlaces, plan_place}
 use Rattle.vx_frame.specs.Placing.{all_places, functions_begin, functions_end, laid_begin, mark_of, marks_from, places_at, spots_of, standing, starts_from}
 use Rattle.vx_frame.specs.Regions.{Noted, all_traces, mark_in, marks_in, rows_of, traced}
 use Rattle.vx_slots.specs.Seen.{no_layout, no_places}

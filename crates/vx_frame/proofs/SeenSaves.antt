@@ -1,7 +1,7 @@
 -- What is saved and brought in each function of a whole program is so in the target that the program makes.
 use Rattle.std.proofs.Common.{ℕ, slice_index_or}
 use Rattle.vx_slots.specs.declared.program.Whole.{Whole}
-use Rattle.vx_target.specs.Carried.{IsSaved}
+use Rattle.vx_target.specs.Frames.{IsSaved}
 use Rattle.vx_calls.specs.Framing.{SavesIn}
 use Rattle.vx_slots.specs.Seen.{seen, frame_of, no_graph, no_layout, no_map}
 

@@ -9,7 +9,7 @@ use Rattle.vx_isa.specs.Numbers.{IsMachine}
 use Rattle.vx_isa.specs.Sound.{is_start}
 use Rattle.vx_slots.specs.declared.program.Whole.{Whole}
 use Rattle.vx_target.specs.Placed.{IsPlaced}
-use Rattle.vx_target.specs.Carried.{first_or_zero}
+use Rattle.vx_target.specs.Frames.{first_or_zero}
 use Rattle.vx_target.specs.Tied.{words_before}
 use Rattle.vx_target.specs.Finish.{AllCanFinish}
 use Rattle.vx_calls.specs.Framing.{IsFrameOf}

@@ -19,7 +19,7 @@ use Rattle.vx_mixed.specs.LaidSettled.{LeadsTo}
 use Rattle.vx_regs.specs.Intervals.{IsLive, is_live}
 use Rattle.vx_target.specs.Target.{Target, is_own, is_call_word, is_caller, is_slotted, kept, past_there, past_from, most_transfers, past, memory_words}
 use Rattle.vx_target.specs.Tied.{Stacked, waiting_at, waiting_above, there_of, Shows, begins_at, words_before, IsFunction, IsResult, Below, Deep, word_at, link_in}
-use Rattle.vx_target.specs.Carried.{CallsAt, IsSaved, NeedsSlot, is_saved, is_spilled, IsFramed}
+use Rattle.vx_target.specs.Frames.{CallsAt, IsSaved, NeedsSlot, is_saved, is_spilled, IsFramed}
 use Rattle.vx_target.specs.Seats.{Framed, is_link, is_slot}
 use Rattle.vx_target.proofs.Names.{in_register}
 

@@ -12,7 +12,7 @@ use Rattle.vx_flow.specs.Sound.{SoundFlow}
 use Rattle.vx_mixed.specs.declared.layout.VWords.{VWords}
 use Rattle.vx_target.specs.Target.{Target, memory_words}
 use Rattle.vx_target.specs.Tied.{Stacked, WasPassed, HasCell, IsStack, Seated, seat, words_before, row_in, begins_at, own_arrays, IsFunction}
-use Rattle.vx_target.specs.Carried.{HasWord, IsFramed}
+use Rattle.vx_target.specs.Frames.{HasWord, IsFramed}
 use Rattle.vx_target.specs.Seats.{HasFrames, Seats, Framed, is_link, is_slot}
 use Rattle.vx_target.proofs.Cells.{row_there}
 use Rattle.vx_target.proofs.Owned.{own_from, own_there, own_once, own_at, own_spot, handed_spot}

@@ -12,7 +12,8 @@ use Rattle.vx_isa.specs.Machine.{stored}
 use Rattle.vx_mixed.specs.declared.layout.VWords.{VWords}
 use Rattle.vx_target.specs.Target.{Target}
 use Rattle.vx_target.specs.Tied.{IsFunction, Stacked, WasPassed, HasCell, IsStack, Sized, Seated, seat, own_arrays, row_in, word_at}
-use Rattle.vx_target.specs.Carried.{Carries, IsSaved}
+use Rattle.vx_target.specs.Frames.{IsSaved}
+use Rattle.vx_target.specs.Carried.{Carries}
 use Rattle.vx_target.specs.Seats.{HasFrames}
 use Rattle.vx_target.proofs.Cells.{SameShape, row_there, set_cell, set_shape, store_known}
 use Rattle.vx_target.proofs.Frames.{get_below}

@@ -37,13 +37,16 @@ module _ (T : Target) where
       (λ k. subst (λ z. Stands z (place_of T x.label) x.words) (append_assoc before y.words (words_of xs)) (piece_stands (before ++ y.words) xs x (subst (λ n. PlacedAt T n xs) l p.1) k))
       i
 
-  at_left : (o : ℕ) (xs ys : List Labelled) → PlacedAt T o (xs ++ ys) → PlacedAt T o xs
+  pub at_left : (o : ℕ) (xs ys : List Labelled) → PlacedAt T o (xs ++ ys) → PlacedAt T o xs
   at_left o [] ys p = tt
   at_left o (x ∷ xs) ys p = (p.0, at_left (o + length x.words) xs ys p.1)
 
-  at_right : (o : ℕ) (xs ys : List Labelled) → PlacedAt T o (xs ++ ys) → (n : ℕ) × PlacedAt T n ys
-  at_right o [] ys p = (o, p)
-  at_right o (x ∷ xs) ys p = at_right (o + length x.words) xs ys p.1
+  pub at_right : (o : ℕ) (xs ys : List Labelled) → PlacedAt T o (xs ++ ys) → PlacedAt T (o + length (words_of xs)) ys
+  at_right o [] ys p = let z : o ≡ o + 0 = omega arith in subst (λ n. PlacedAt T n ys) z p
+  at_right o (x ∷ xs) ys p =
+      let l : length (x.words ++ words_of xs) ≡ length x.words + length (words_of xs) = length-append x.words (words_of xs) in
+      let z : o + length x.words + length (words_of xs) ≡ o + length (x.words ++ words_of xs) = omega arith in
+      subst (λ n. PlacedAt T n ys) z (at_right (o + length x.words) xs ys p.1)
 
   abbrev pub piece_at : ℕ → ℕ → VirtualWord → Labelled
   piece_at f p word = record { label = At f p; words = word_words T f p word }
@@ -103,8 +106,7 @@ module _ (T : Target) where
   function_at o f zero (suc n) lt a = let z : f ≡ f + 0 = omega arith in (o, subst (λ m. PlacedAt T o (function_pieces T m)) z (at_left o (function_pieces T f) (functions_pieces T (suc f) n) a))
   function_at o f (suc k) (suc n) lt a =
       let z : suc f + k ≡ f + suc k = omega arith in
-      let r = at_right o (function_pieces T f) (functions_pieces T (suc f) n) a in
-      let h = function_at r.0 (suc f) k n (omega arith) r.1 in (h.0, subst (λ m. PlacedAt T h.0 (function_pieces T m)) z h.1)
+      let h = function_at (o + length (words_of (function_pieces T f))) (suc f) k n (omega arith) (at_right o (function_pieces T f) (functions_pieces T (suc f) n) a) in (h.0, subst (λ m. PlacedAt T h.0 (function_pieces T m)) z h.1)
 
   module _ (main count : ℕ) (words : List Word) (placed : IsPlaced T main count words) where
     all_stands : (x : Labelled) → IsIn x (all_pieces T main count) → Stands words (place_of T x.label) x.words

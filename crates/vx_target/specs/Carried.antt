@@ -1,11 +1,8 @@
 -- When words over registers carry laid-out words over values, and the law that they then do the same.
-use Rattle.std.specs.Prelude.{◌≡◌, ◌≢◌, ◌<◌, ◌≤◌, ◌+◌, ◌*◌, ◌^◌, ◌==◌, ℕ, suc, ℤ, pos, Bool, true, false, if◌then◌else◌, Option, Some, List, [], ◌∷◌, length, map, slice_get}
+use Rattle.std.specs.Prelude.{◌≡◌, ◌<◌, ◌≤◌, ◌+◌, ◌*◌, ◌^◌, ℕ, ℤ, Bool, true, false, Option, Some, List, [], ◌∷◌, length, map, slice_get}
 use Rattle.vx_base.specs.Outcome.{Same, NeverFails}
-use Rattle.vx_flow.specs.declared.graph.Array.{Array}
 use Rattle.vx_flow.specs.declared.graph.Global.{Global}
 use Rattle.vx_flow.specs.declared.graph.Flow.{Flow}
-use Rattle.vx_flow.specs.declared.graph.Operand.{Operand}
-use Rattle.vx_flow.specs.Effects.{IsIn}
 use Rattle.vx_flow.specs.Sound.{is_sound_flow}
 use Rattle.vx_isa.specs.declared.program.Word.{Word}
 use Rattle.vx_isa.specs.declared.program.WordProgram.{WordProgram}
@@ -19,18 +16,16 @@ use Rattle.vx_room.specs.Items.{latency_of_op}
 use Rattle.vx_room.specs.Room.{has_room}
 use Rattle.vx_mixed.specs.declared.layout.Laid.{Laid}
 use Rattle.vx_mixed.specs.declared.layout.Laid.TheVariants.{Plain, Split}
-use Rattle.vx_mixed.specs.declared.layout.VirtualWord.TheVariants.{Call}
 use Rattle.vx_mixed.specs.declared.layout.VWords.{VWords}
 use Rattle.vx_layout.specs.Brief.{IsBriefLayout}
 use Rattle.vx_layout.specs.Laid.{laid_run}
 use Rattle.vx_mixed.specs.LaidSettled.{SettledLayout, home_in}
 use Rattle.vx_layout.specs.Origins.{LaidFromGraph}
-use Rattle.vx_mixed.specs.Settled.{NoTwice}
-use Rattle.vx_regs.specs.Intervals.{IsLive, IsBusy}
+use Rattle.vx_regs.specs.Intervals.{IsBusy}
 use Rattle.vx_regs.specs.Mapped.{KeepsApart}
-use Rattle.vx_regs.specs.declared.map.Kept.TheVariants.{InRegister}
-use Rattle.vx_target.specs.Target.{Target, parameters_of, is_slotted, kept, memory_words}
-use Rattle.vx_target.specs.Tied.{IsFunction, IsResult, words_before}
+use Rattle.vx_target.specs.Target.{Target, memory_words}
+use Rattle.vx_target.specs.Tied.{IsFunction, words_before}
+use Rattle.vx_target.specs.Frames.{IsSaved, IsFramed, first_or_zero}
 use Rattle.vx_target.specs.Placed.{IsPlaced}
 
 -- the room that a machine has for the words of a layout
@@ -52,58 +47,6 @@ pub record IsMapped (T : Target) (f : ℕ) : Type 0 where
   pub apart : KeepsApart T.machine (latency_of_op T.machine) (T.layout f) (T.maps f)
   pub homes : (p v : ℕ) → IsBusy (latency_of_op T.machine) (T.layout f) p v → home_in (T.layout f) v < T.machine.clusters
 
-abbrev pub CallsAt : Target → (function place called : ℕ) → List Operand → Option ℕ → Type 0
-CallsAt T f p g arguments result = slice_get (T.layout f).words p ≡ Some (Call g arguments result)
-
--- the value is live behind a call, is not its result, and is in a register
-pub record Survives (T : Target) (f p : ℕ) (result : Option ℕ) (v : ℕ) : Type 0 where
-  pub live : IsLive (T.layout f) (suc p) v
-  pub other : IsResult result v → ⊥
-  pub number : ℕ
-  pub register : kept T f v ≡ InRegister number
-
--- the value is a parameter that is live at the entry, and is in a register
-pub record Arrives (T : Target) (f v : ℕ) : Type 0 where
-  pub passed : IsIn v (parameters_of T f)
-  pub live : IsLive (T.layout f) (T.layout f).entry v
-  pub number : ℕ
-  pub register : kept T f v ≡ InRegister number
-
--- exactly those are saved round a call, and exactly these brought to their registers
-pub record IsSaved (T : Target) (f : ℕ) : Type 0 where
-  pub saved : (p g v : ℕ) (arguments : List Operand) (result : Option ℕ) → CallsAt T f p g arguments result → IsIn v (T.saved f p) → Survives T f p result v
-  pub saves : (p g v : ℕ) (arguments : List Operand) (result : Option ℕ) → CallsAt T f p g arguments result → Survives T f p result v → IsIn v (T.saved f p)
-  pub brought : (v : ℕ) → IsIn v (T.brought f) → Arrives T f v
-  pub brings : (v : ℕ) → Arrives T f v → IsIn v (T.brought f)
-  pub saved_once : (p : ℕ) → NoTwice (T.saved f p)
-  pub brought_once : NoTwice (T.brought f)
-
--- frames
-
--- a parameter needs a slot, and so does what is kept in one, or is saved round a call
-pub data NeedsSlot (T : Target) (f v : ℕ) : Type 0 where
-  is_passed : IsIn v (parameters_of T f) → NeedsSlot T f v
-  is_spilled : (p : ℕ) → IsBusy (latency_of_op T.machine) (T.layout f) p v → is_slotted (kept T f v) ≡ true → NeedsSlot T f v
-  is_saved : (p g : ℕ) (arguments : List Operand) (result : Option ℕ) → CallsAt T f p g arguments result → IsIn v (T.saved f p) → NeedsSlot T f v
-
--- array a of the function has a word i
-pub record HasWord (T : Target) (f a i : ℕ) : Type 0 where
-  pub array : Array
-  pub is : slice_get (T.graph f).arrays a ≡ Some array
-  pub below : i < array.words
-
--- in the frame the link is the first word; slots and the function's own arrays follow, apart from each other
-pub record IsFramed (T : Target) (flow : Flow) (f : ℕ) : Type 0 where
-  pub slot_from : (v : ℕ) → NeedsSlot T f v → 1 ≤ T.slot f v
-  pub slot_to : (v : ℕ) → NeedsSlot T f v → T.slot f v < T.frame
-  pub slots : (u v : ℕ) → NeedsSlot T f u → NeedsSlot T f v → T.slot f u ≡ T.slot f v → u ≡ v
-  pub own_from : (a i : ℕ) → length flow.globals ≤ a → HasWord T f a i → 1 ≤ T.array_at f a
-  pub own_to : (a i : ℕ) → length flow.globals ≤ a → HasWord T f a i → T.array_at f a + i < T.frame
-  pub own_end : (a : ℕ) (array : Array) → length flow.globals ≤ a → slice_get (T.graph f).arrays a ≡ Some array → T.array_at f a + array.words ≤ T.frame
-  pub own_apart : (a b i j : ℕ) → length flow.globals ≤ a → length flow.globals ≤ b → HasWord T f a i → HasWord T f b j → T.array_at f a + i ≡ T.array_at f b + j → (a ≡ b) × (i ≡ j)
-  pub slot_own : (v a i : ℕ) → NeedsSlot T f v → length flow.globals ≤ a → HasWord T f a i → T.slot f v ≢ T.array_at f a + i
-  pub globals : (a : ℕ) → a < length flow.globals → T.array_at f a ≡ words_before flow.globals a
-
 -- programs
 
 pub record IsFunctionOf (T : Target) (flow : Flow) (ls : List VWords) (f : ℕ) : Type 0 where
@@ -111,10 +54,6 @@ pub record IsFunctionOf (T : Target) (flow : Flow) (ls : List VWords) (f : ℕ) 
   pub mapped : IsMapped T f
   pub saved : IsSaved T f
   pub framed : IsFramed T flow f
-
--- a word of a global at the start: the first is its number, the others are 0
-abbrev pub first_or_zero : ℤ → ℕ → ℤ
-first_or_zero n i = if i == 0 then n else pos 0
 
 pub record Carries (T : Target) (flow : Flow) (ls : List VWords) (w : WordProgram) : Type 0 where
   pub machine : IsMachine T.machine

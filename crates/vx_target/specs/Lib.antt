@@ -1,8 +1,10 @@
 pub mod Target
 pub mod Tied
+pub mod Frames
 pub mod Placed
 pub mod Carried
 pub mod Given
 pub mod Seats
 pub mod Finish
+pub mod PlacesIn
 pub mod Places

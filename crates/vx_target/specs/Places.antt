@@ -1,5 +1,5 @@
 -- Where the words of the regions of all functions stand.
-use Rattle.std.specs.Prelude.{◌≡◌, ◌<◌, ◌+◌, ℕ, zero, suc, Some, List, [], ◌∷◌, length, slice_get, slice_index_or}
+use Rattle.std.specs.Prelude.{◌≡◌, ◌<◌, ◌+◌, ℕ, Some, List, length, slice_get}
 use Rattle.vx_mixed.specs.declared.layout.Laid.{Laid}
 use Rattle.vx_mixed.specs.declared.layout.VirtualWord.TheVariants.{Planned}
 use Rattle.vx_mixed.specs.declared.layout.VWords.{VWords}
@@ -7,23 +7,11 @@ use Rattle.vx_mixed.specs.LaidSettled.{laid_reads}
 use Rattle.vx_layout.specs.Numbered.{words_in}
 use Rattle.vx_target.specs.declared.finished.TracePlaces.{TracePlaces}
 use Rattle.vx_target.specs.Target.{Target, before}
+use Rattle.vx_target.specs.PlacesIn.{regions_before, places_in}
 
 -- where the operations of a planned word stand: behind the loads of what it reads from slots
 abbrev pub plan_place : Target → (function place : ℕ) → List Laid → ℕ
 plan_place T f p items = T.starts f p + length (before T f (laid_reads items))
-
--- how many regions the functions before one have
-abbrev pub regions_before : List VWords → (function : ℕ) → ℕ
-regions_before [] f = 0
-regions_before (l ∷ ls) zero = 0
-regions_before (l ∷ ls) (suc f) = l.regions + regions_before ls f
-
-abbrev pub no_words : TracePlaces
-no_words = record { places = [] }
-
--- the places of the words of region r of function f, where the regions of the functions stand one after the other
-abbrev pub places_in : List TracePlaces → List VWords → (f r : ℕ) → List ℕ
-places_in places ls f r = (slice_index_or places (regions_before ls f + r) no_words).places
 
 -- each region of each function has its places, as many as it has words, and the one with a word's number is where the operations of
 -- that word stand; there are no more

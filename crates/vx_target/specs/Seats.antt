@@ -7,7 +7,7 @@ use Rattle.vx_flow.specs.Meaning.{spot_in}
 use Rattle.vx_mixed.specs.declared.layout.VWords.{VWords}
 use Rattle.vx_target.specs.Target.{Target, memory_words}
 use Rattle.vx_target.specs.Tied.{IsFunction, Stacked, HasCell, row_in, word_at, begins_at, words_before}
-use Rattle.vx_target.specs.Carried.{NeedsSlot, IsFramed}
+use Rattle.vx_target.specs.Frames.{NeedsSlot, IsFramed}
 
 -- a word of an activation's frame that no array may have: the link, or the slot of a value
 pub data Framed (T : Target) (x : Stacked) (word : ℕ) : Type 0 where

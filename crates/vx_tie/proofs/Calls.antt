@@ -39,7 +39,8 @@ use Rattle.vx_layout.specs.Origins.{CallsAs, whole}
 use Rattle.vx_regs.specs.Intervals.{IsLive, here, beyond, is_live, result_of}
 use Rattle.vx_target.specs.Target.{Target, answer, kept, is_slotted, is_branch, home, holds_branch, branch_of, stack_on, parameters_of, register_of, one, pause, in_flight, bytes, save_words, leave_or_lower, argument_words, call_words, back_words, memory_words}
 use Rattle.vx_target.specs.Tied.{Tied, AtWord, Seating, IsShown, IsBaseShown, IsAnswer, Shows, Stacked, WasPassed, IsStack, Seated, Waits, Below, IsResult, active_at, waiting_at, stack_from, waiting_above, seat, seating, here_of, Itself, AsBase, kind_of, word_at}
-use Rattle.vx_target.specs.Carried.{Carries, IsFunctionOf, NeedsSlot, is_passed, is_saved, is_spilled, Survives}
+use Rattle.vx_target.specs.Frames.{NeedsSlot, is_passed, is_saved, is_spilled, Survives}
+use Rattle.vx_target.specs.Carried.{Carries, IsFunctionOf}
 use Rattle.vx_target.specs.Seats.{Seats, is_slot}
 use Rattle.vx_target.proofs.Bytes.{unsigned_small}
 use Rattle.vx_target.proofs.Calm.{seen, AllFit, after, not_stuck, effect_is}

@@ -32,7 +32,8 @@ use Rattle.vx_regs.specs.declared.map.Kept.TheVariants.{InRegister, InSlot, Nowh
 use Rattle.vx_regs.specs.Intervals.{is_named, word_reads, word_writes}
 use Rattle.vx_target.specs.Target.{Target, answer, general, general_of, branch_of, number_by, scratch, stack_on, holds_branch, is_slotted, kept, slotted, once, parameters_of, one, together, pause, in_flight, settled, set_stack, slots_in_flight, load_slot, store_slot, load_slots, store_slots, if_some, before, behind, plan_word, plan_words, past_there, past_from, most_transfers, past, landing_words, on_clusters, stack_steps, move_stack, leave_or_lower, save_words, reload_words, fetch_words, fetched, cluster_of_operand, passes, calls_beside, store_or_call, argument_words, result_words, call_words, back_words, is_caller, answer_words, last_beside, leave_words, return_words, follows, way, link_words, begin_words, wanted, entry_words, turns, idle_words, word_words, start_words, waits, bytes, first_frame}
 use Rattle.vx_target.specs.Placed.{Depth, Labelled, PlacedAt, place_of, laid_pieces, landing_of, item_landings, word_landings, landing_pieces, function_pieces, functions_pieces, all_pieces, words_of}
-use Rattle.vx_target.specs.Carried.{Carries, IsFunctionOf, IsMapped, NeedsSlot, is_passed, is_spilled, is_saved}
+use Rattle.vx_target.specs.Frames.{NeedsSlot, is_passed, is_spilled, is_saved}
+use Rattle.vx_target.specs.Carried.{Carries, IsFunctionOf, IsMapped}
 use Rattle.vx_target.specs.Places.{plan_place}
 use Rattle.vx_tie.specs.Plans.{AreSpaced, IsSpaced, LeavesAt, at_once, by_empty, IsEntrance, at_entry, by_transfer, by_choice, IsBranchOf, IsInStart, IsInEntry, IsInCall, IsInReturn, IsOther, loads_slot, stores_slot, picks_number, tests_number, moves, tests_depth, leaves_by_depth, leaves_or_lowers, moves_stacks, calls, stores_slot_and_calls, takes_link, stores_link, loads_link, moves_and_loads_link, gives_link, returns, moves_and_returns, sets_stacks, calls_first, halts, traps, traps_depth, idles, goes, branches, goes_out}
 use Rattle.vx_target.proofs.FromPlace.{StandFrom, stand_here, stand_on, stand_from_start}
@@ -49,7 +50,7 @@ use Rattle.vx_tie.proofs.Filed.{few_single, few_kept}
 use Rattle.vx_tie.proofs.WordHeats.{few_r, few_w}
 
 -- the word at a place is that of a planned word
-pub record IsPlanWord (T : Target) (count q : ℕ) : Type 0 where
+pub record IsPlannedAt (T : Target) (count q : ℕ) : Type 0 where
   pub function : ℕ
   pub place : ℕ
   pub region : ℕ
@@ -75,7 +76,7 @@ module _ (T : Target) (count : ℕ) where
 
   abbrev KindsAt : ℕ → List Word → Type 0
   KindsAt q [] = Unit {0}
-  KindsAt q (w ∷ ws) = (IsPlanWord T count q ⊎ IsOther T count q w) × KindsAt (suc q) ws
+  KindsAt q (w ∷ ws) = (IsPlannedAt T count q ⊎ IsOther T count q w) × KindsAt (suc q) ws
 
   kinds_other : (from to q : ℕ) (ws : List Word) → from ≤ q → q + length ws ≤ to → AllOther from to ws → KindsAt q ws
   kinds_other from to q [] le fits h = tt
@@ -85,13 +86,13 @@ module _ (T : Target) (count : ℕ) where
   kinds_append q [] ys a b = let z : q + 0 ≡ q = omega arith in subst (λ n. KindsAt n ys) z b
   kinds_append q (x ∷ xs) ys a b = let z : q + suc (length xs) ≡ suc q + length xs = omega arith in (a.0, kinds_append (suc q) xs ys a.1 (subst (λ n. KindsAt n ys) z b))
 
-  kind_at : (q : ℕ) (ws : List Word) (p : ℕ) (w : Word) → KindsAt q ws → slice_get ws p ≡ Some w → IsPlanWord T count (q + p) ⊎ IsOther T count (q + p) w
+  kind_at : (q : ℕ) (ws : List Word) (p : ℕ) (w : Word) → KindsAt q ws → slice_get ws p ≡ Some w → IsPlannedAt T count (q + p) ⊎ IsOther T count (q + p) w
   kind_at q [] p w h e = absurd (cc)
   kind_at q (x ∷ ws) zero w h e =
       let s : x ≡ w = cc in
       let z : q ≡ q + 0 = omega arith in
-      subst (λ y. IsPlanWord T count (q + 0) ⊎ IsOther T count (q + 0) y) s (subst (λ n. IsPlanWord T count n ⊎ IsOther T count n x) z h.0)
-  kind_at q (x ∷ ws) (suc p) w h e = let z : suc q + p ≡ q + suc p = omega arith in subst (λ n. IsPlanWord T count n ⊎ IsOther T count n w) z (kind_at (suc q) ws p w h.1 e)
+      subst (λ y. IsPlannedAt T count (q + 0) ⊎ IsOther T count (q + 0) y) s (subst (λ n. IsPlannedAt T count n ⊎ IsOther T count n x) z h.0)
+  kind_at q (x ∷ ws) (suc p) w h e = let z : suc q + p ≡ q + suc p = omega arith in subst (λ n. IsPlannedAt T count n ⊎ IsOther T count n w) z (kind_at (suc q) ws p w h.1 e)
 
   abbrev KindPieces : List Labelled → Type 0
   KindPieces [] = Unit {0}
@@ -432,7 +433,7 @@ module _ (T : Target) (flow : Flow) (ls : List VWords) (w : WordProgram) (sound 
           let stores : List Word = behind T f items in
           let here : ℕ = T.starts f p in
           let at : ℕ = here + length loads in
-          let there : IsPlanWord T Count at = record { function = f; place = p; region = rg; number = wd; items = items; low = lt; planned = plan; at = refl } in
+          let there : IsPlannedAt T Count at = record { function = f; place = p; region = rg; number = wd; items = items; low = lt; planned = plan; at = refl } in
           kinds_append T Count here loads (plan_word T f p items ∷ stores) (kinds_other T Count here at here loads (omega arith) (omega arith) (before_other here at (laid_reads items) names_read (reads_need p (Planned rg wd items) plan)))
           (inl there, kinds_other T Count (suc at) (suc at + length stores) (suc at) stores (omega arith) (omega arith) (behind_other (suc at) (suc at + length stores) items names_written (writes_need p (Planned rg wd items) plan)))
 
@@ -549,8 +550,8 @@ module _ (T : Target) (flow : Flow) (ls : List VWords) (w : WordProgram) (sound 
   all_kinds = subst (Kinds 0) (sym carries.placed.is) (pieces_kinds T Count 0 (all_pieces T flow.main Count) carries.placed.places
       (start_kinds, pieces_append T Count (functions_pieces T 0 Count) (record { label = Depth; words = one (EndByTrap ByDepth) ∷ [] } ∷ []) (functions_kinds 0 Count (omega arith)) ((inr (traps_depth refl), tt), tt)))
 
-  pub word_kind : (q : ℕ) (word : Word) → WordAt w q word → IsPlanWord T Count q ⊎ IsOther T Count q word
-  word_kind q word e = let z : 0 + q ≡ q = omega arith in subst (λ n. IsPlanWord T Count n ⊎ IsOther T Count n word) z (kind_at T Count 0 w.words q word all_kinds e)
+  pub word_kind : (q : ℕ) (word : Word) → WordAt w q word → IsPlannedAt T Count q ⊎ IsOther T Count q word
+  word_kind q word e = let z : 0 + q ≡ q = omega arith in subst (λ n. IsPlannedAt T Count n ⊎ IsOther T Count n word) z (kind_at T Count 0 w.words q word all_kinds e)
 
   -- the word of a planned one stands at its place
 

@@ -25,7 +25,8 @@ use Rattle.vx_regs.specs.declared.map.Kept.TheVariants.{InRegister}
 use Rattle.vx_target.specs.Target.{Target, answer, general, stack_on, kept, is_slotted, parameters_of, holds_branch, register_of, one, pause, in_flight, settled, is_caller, load_slots, past, link_words, way, wanted, entry_words, memory_words}
 use Rattle.vx_target.specs.Tied.{Tied, AtEntry, Below, Seated, Seating, Shows, active_at, here_of, stack_from, waiting_above, seat, holds, word_at, link_in}
 use Rattle.vx_target.specs.Seats.{Seats, is_link}
-use Rattle.vx_target.specs.Carried.{Carries, IsFunctionOf, is_passed, Arrives}
+use Rattle.vx_target.specs.Frames.{is_passed, Arrives}
+use Rattle.vx_target.specs.Carried.{Carries, IsFunctionOf}
 use Rattle.vx_tie.specs.Planned.{CarriesOn, FallsThrough, EntryLaw}
 use Rattle.vx_tie.proofs.PastTransfers.{Led, led_past, steps_on}
 use Rattle.vx_target.proofs.Calm.{seen, AllFit, Going}

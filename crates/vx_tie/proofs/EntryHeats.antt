@@ -19,7 +19,8 @@ use Rattle.vx_mixed.specs.LaidSettled.{bank_in}
 use Rattle.vx_mixed.specs.Settled.{NoTwice}
 use Rattle.vx_regs.specs.Intervals.{IsBusy, is_live}
 use Rattle.vx_target.specs.Target.{Target, general, kept, is_slotted, register_of, stack_on, one, pause, in_flight, load_slots, reload_words, result_words, settled, is_caller, past, follows, way, by_way, spared, most_spared, wanted, link_words, begin_words, entry_words, call_words, back_words, bytes}
-use Rattle.vx_target.specs.Carried.{IsMapped, IsSaved, CallsAt}
+use Rattle.vx_target.specs.Frames.{IsSaved, CallsAt}
+use Rattle.vx_target.specs.Carried.{IsMapped}
 use Rattle.vx_target.proofs.Names.{not_general, not_first_branch, not_scratch, apart_registers}
 use Rattle.vx_target.proofs.Live.{live_bank}
 use Rattle.vx_tie.proofs.Early.{Touches, words_kind, words_cool}

@@ -29,7 +29,7 @@ use Rattle.vx_target.specs.Target.{Target, answer, general, general_of, branch_o
 use Rattle.vx_target.specs.Placed.{Depth, Labelled, PlacedAt, place_of, laid_pieces, landing_of, item_landings, word_landings, landing_pieces, function_pieces, functions_pieces, all_pieces, words_of}
 use Rattle.vx_target.specs.Carried.{Carries, IsMapped}
 use Rattle.vx_tie.specs.Plans.{AreSpaced, GoesOn, IsSpaced}
-use Rattle.vx_tie.proofs.EachWord.{IsPlanWord}
+use Rattle.vx_tie.proofs.EachWord.{IsPlannedAt}
 use Rattle.vx_target.proofs.Enough.{some_cluster}
 use Rattle.vx_target.proofs.Frames.{get_some, past_below}
 use Rattle.vx_tie.proofs.Spaced.{Firm}
@@ -281,7 +281,7 @@ module _ (T : Target) where
 
 module _ (T : Target) (count : ℕ) where
   abbrev pub Busy : ℕ → Word → Type 0
-  Busy q w = IsPlanWord T count q ⊎ Operates w.ops
+  Busy q w = IsPlannedAt T count q ⊎ Operates w.ops
 
   abbrev Runs : Bool → ℕ → List Word → Bool → Type 0
   Runs a q [] b = a ≡ true → b ≡ true
@@ -371,7 +371,7 @@ module _ (T : Target) (flow : Flow) (ls : List VWords) (w : WordProgram) (carrie
     planned_runs : (p rg wd : ℕ) (items : List Laid) → HasWordAt p (Planned rg wd items) → Runs T Count true (T.starts f p) (plan_words T f p items) false
     planned_runs p rg wd items plan =
         let loads : List Word = before T f (laid_reads items) in
-        let there : IsPlanWord T Count (T.starts f p + length loads) = record { function = f; place = p; region = rg; number = wd; items = items; low = lt; planned = plan; at = refl } in
+        let there : IsPlannedAt T Count (T.starts f p + length loads) = record { function = f; place = p; region = rg; number = wd; items = items; low = lt; planned = plan; at = refl } in
         then_runs T Count true true false (T.starts f p) loads (plan_word T f p items ∷ behind T f items) (runs_of T Count true true (T.starts f p) loads (before_idles T f (laid_reads items)))
         (inl (inl there, runs_of T Count false false (suc (T.starts f p + length loads)) (behind T f items) (behind_idles T f items)))
 

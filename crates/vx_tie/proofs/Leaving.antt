@@ -29,7 +29,8 @@ use Rattle.vx_mixed.specs.LaidSettled.{bank_in}
 use Rattle.vx_regs.specs.Intervals.{IsLive, here, is_live}
 use Rattle.vx_target.specs.Target.{Target, answer, general, kept, is_slotted, is_branch, holds_branch, stack_on, register_of, one, together, pause, in_flight, settled, is_caller, fetch_words, fetched, last_beside, leave_words, return_words, memory_words}
 use Rattle.vx_target.specs.Tied.{Tied, AtWord, Seating, Shows, here_of, Itself, back_place, kind_of, word_at}
-use Rattle.vx_target.specs.Carried.{Carries, IsFunctionOf, is_spilled}
+use Rattle.vx_target.specs.Frames.{is_spilled}
+use Rattle.vx_target.specs.Carried.{Carries, IsFunctionOf}
 use Rattle.vx_target.proofs.Bytes.{unsigned_small}
 use Rattle.vx_target.proofs.Calm.{seen, put_at, put_off, AllFit, after}
 use Rattle.vx_target.proofs.Enough.{some_cluster}

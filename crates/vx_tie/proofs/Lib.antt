@@ -18,7 +18,9 @@ pub mod EachWord
 pub mod Spaced
 pub mod Spared
 pub mod IdleWords
+pub mod PlanWords
 pub mod WholePlan
+pub mod Emission
 pub mod Limits
 pub mod Filed
 pub mod Needing

@@ -28,7 +28,8 @@ use Rattle.vx_mixed.specs.LaidSettled.{LeadsTo, laid_reads, laid_writes, bank_in
 use Rattle.vx_regs.specs.Intervals.{IsLive, here, beyond, IsBusy, is_live}
 use Rattle.vx_target.specs.Target.{Target, kept, is_slotted, register_of, past, memory_words, plan_words}
 use Rattle.vx_target.specs.Tied.{Tied, AtWord, Below, Seating, Shows, Stacked, IsStack, HasCell, Seated, active_at, here_of, stack_from, waiting_above, seat, holds, word_at}
-use Rattle.vx_target.specs.Carried.{Carries, IsFunctionOf, NeedsSlot, is_spilled, item_of_laid}
+use Rattle.vx_target.specs.Frames.{NeedsSlot, is_spilled}
+use Rattle.vx_target.specs.Carried.{Carries, IsFunctionOf, item_of_laid}
 use Rattle.vx_target.specs.Seats.{Seats, is_link, is_slot}
 use Rattle.vx_tie.specs.Planned.{CarriesOn, PlannedLaw}
 use Rattle.vx_target.proofs.Calm.{AllFit}

@@ -35,7 +35,8 @@ use Rattle.vx_layout.specs.Origins.{CallsAs}
 use Rattle.vx_regs.specs.Intervals.{IsLive, IsBusy, is_live, is_named, result_of}
 use Rattle.vx_target.specs.Target.{Target, answer, kept, is_slotted, is_branch, holds_branch, stack_on, register_of, one, bytes, move_stack, result_words, load_slots, wanted, reload_words, call_words, back_words, set_stack, halt_place, memory_words}
 use Rattle.vx_target.specs.Tied.{Tied, Seating, Shows, Stacked, IsStack, Seated, Waits, Below, Deep, IsResult, active_at, waiting_at, there_of, waiting_above, seat, Itself, IsShown, back_place, kind_of, holds, word_at}
-use Rattle.vx_target.specs.Carried.{Carries, IsFunctionOf, NeedsSlot, is_spilled, is_saved, Survives}
+use Rattle.vx_target.specs.Frames.{NeedsSlot, is_spilled, is_saved, Survives}
+use Rattle.vx_target.specs.Carried.{Carries, IsFunctionOf}
 use Rattle.vx_tie.specs.Planned.{CarriesOn, EndsAlike}
 use Rattle.vx_tie.proofs.PastTransfers.{one_on}
 use Rattle.vx_tie.specs.Returned.{ReturnLaw}

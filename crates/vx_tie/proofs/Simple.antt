@@ -26,7 +26,8 @@ use Rattle.vx_mixed.specs.LaidSettled.{LeadsTo, bank_in}
 use Rattle.vx_regs.specs.Intervals.{IsLive, here, beyond, is_live, word_writes}
 use Rattle.vx_target.specs.Target.{Target, answer, stack_on, kept, is_slotted, holds_branch, same_file, scratch, general_of, branch_of, register_of, slotted, before, past, follows, turns, one, waits, pause, word_words, memory_words}
 use Rattle.vx_target.specs.Tied.{Tied, AtWord, Below, Seated, Seating, here_of, stack_from, Shows, Itself, holds, kind_of, word_at}
-use Rattle.vx_target.specs.Carried.{Carries, IsFunctionOf, IsMapped, is_spilled}
+use Rattle.vx_target.specs.Frames.{is_spilled}
+use Rattle.vx_target.specs.Carried.{Carries, IsFunctionOf, IsMapped}
 use Rattle.vx_tie.specs.Planned.{CarriesOn, EndsAlike, FallsNext, Simple, SimpleLaw}
 use Rattle.vx_tie.proofs.PastTransfers.{Led, led_past, steps_on}
 use Rattle.vx_target.proofs.Calm.{seen, AllFit, after, not_stuck, effect_is}

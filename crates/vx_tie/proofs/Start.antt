@@ -25,7 +25,8 @@ use Rattle.vx_mixed.specs.declared.layout.VWords.{VWords}
 use Rattle.vx_layout.specs.Laid.{laid_hop, laid_body, laid_program, laid_run}
 use Rattle.vx_target.specs.Target.{Target, stack_on, one, answer, set_stack, start_words, first_frame, halt_place, bytes, parameters_of}
 use Rattle.vx_target.specs.Tied.{Tied, Deep, WasPassed, IsStack, Seated, active_at, stack_from, row_in, word_at, words_before}
-use Rattle.vx_target.specs.Carried.{Carries, IsFunctionOf, first_or_zero}
+use Rattle.vx_target.specs.Frames.{first_or_zero}
+use Rattle.vx_target.specs.Carried.{Carries, IsFunctionOf}
 use Rattle.vx_tie.specs.Planned.{StartsTied, StartLaw}
 use Rattle.vx_target.proofs.Calm.{after, AllFit, put_at, put_off}
 use Rattle.vx_target.proofs.Cells.{row_there}

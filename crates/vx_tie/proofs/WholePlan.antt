@@ -12,14 +12,16 @@ use Rattle.vx_isa.specs.Paths.{WordAt}
 use Rattle.vx_mixed.specs.declared.layout.VWords.{VWords}
 use Rattle.vx_regs.specs.declared.map.RegMap.{RegMap}
 use Rattle.vx_target.specs.declared.finished.Finished.{Finished}
-use Rattle.vx_target.specs.Target.{Target, most_transfers}
+use Rattle.vx_target.specs.Target.{Target, most_transfers, plan_word}
 use Rattle.vx_target.specs.Carried.{Carries}
 use Rattle.vx_target.specs.Finish.{Finishes}
 use Rattle.vx_target.specs.Places.{plan_place}
 use Rattle.vx_target.proofs.Beside.{turn_is}
 use Rattle.vx_target.proofs.Frames.{past_keeps}
-use Rattle.vx_tie.specs.Plans.{by_transfer, IsEntrance, TurnLaw, IsOther, loads_slot, stores_slot, picks_number, tests_number, moves, tests_depth, leaves_by_depth, leaves_or_lowers, moves_stacks, calls, stores_slot_and_calls, takes_link, stores_link, loads_link, moves_and_loads_link, gives_link, returns, moves_and_returns, sets_stacks, calls_first, halts, traps, traps_depth, idles, goes, branches, goes_out, IsPlanPlace, IsIdle, cycles_at, cycles_from, CarriesPlan, AreSpaced, PlanLaw}
-use Rattle.vx_tie.proofs.EachWord.{IsPlanWord, word_kind, plan_stands}
+use Rattle.vx_tie.specs.Plans.{by_transfer, IsEntrance, IsOther, loads_slot, stores_slot, picks_number, tests_number, moves, tests_depth, leaves_by_depth, leaves_or_lowers, moves_stacks, calls, stores_slot_and_calls, takes_link, stores_link, loads_link, moves_and_loads_link, gives_link, returns, moves_and_returns, sets_stacks, calls_first, halts, traps, traps_depth, idles, goes, branches, goes_out, IsPlanPlace, IsIdle, cycles_at, cycles_from, CarriesPlan, AreSpaced}
+use Rattle.vx_tie.specs.PlanLaws.{PlanLaw, TurnLaw}
+use Rattle.vx_tie.proofs.EachWord.{IsPlannedAt, word_kind, plan_stands}
+use Rattle.vx_tie.proofs.PlanWords.{plan_word_is}
 use Rattle.vx_tie.proofs.IdleWords.{Operates, Busy, busy_beside}
 
 no_op : (ops : List Operation) → Operates ops → ops ≡ [] → ⊥
@@ -75,7 +77,7 @@ module _ (m : Numbers) (flow : Flow) (ls : List VWords) (maps : List RegMap) (x 
   below : (f : ℕ) → f < length ls → f < length flow.functions
   below f lt = subst (λ n. f < n) finishes.functions lt
 
-  named : (q : ℕ) → IsPlanWord T (length flow.functions) q → Place q
+  named : (q : ℕ) → IsPlannedAt T (length flow.functions) q → Place q
   named q h =
       let lt : h.function < length ls = subst (λ n. h.function < n) (sym finishes.functions) h.low in
       record { function = h.function; place = h.place; region = h.region; number = h.number; items = h.items; below = lt; planned = h.planned; at = finishes.places.each h.function h.place h.region h.number h.items lt h.planned ∙ ap Some h.at }
@@ -107,7 +109,7 @@ module _ (m : Numbers) (flow : Flow) (ls : List VWords) (maps : List RegMap) (x 
 
   carries_plan : CarriesPlan T ls x.places x.program
   carries_plan = record {
-    planned = λ f p r i items lt e. (plan_place T f p items, finishes.places.each f p r i items lt e, plan_stands T flow ls x.program sound c spaced f p r i items (below f lt) e);
+    planned = λ f p r i items lt e. (plan_place T f p items, plan_word T f p items, finishes.places.each f p r i items lt e, plan_stands T flow ls x.program sound c spaced f p r i items (below f lt) e, plan_word_is T f p items);
     others = others;
     idle = idle;
   }

@@ -1,44 +1,41 @@
--- The words of a program carry the words of its plan: at the place of each one stands a word with exactly its operations and, as the
--- last one, where it can stand there, the goto of the place behind; and every other word is of one of the kinds below.
-use Rattle.std.specs.Prelude.{◌≡◌, ◌⊎◌, ◌<◌, ◌≤◌, ◌+◌, ℕ, zero, suc, ℤ, pos, neg_ℤ, Bool, true, false, Option, Some, None, List, [], ◌∷◌, length, slice_get}
+-- The words of a program carry the words of its plan: at the place of each one stands a word with exactly its operations and perhaps, as
+-- the last one, the goto of the transfer behind; and every other word is of one of the kinds below.
+use Rattle.std.specs.Prelude.{◌≡◌, ◌⊎◌, ◌<◌, ◌≤◌, ◌+◌, ℕ, zero, suc, ℤ, pos, neg_ℤ, Bool, true, false, Option, Some, None, List, [], ◌∷◌, ◌++◌, length, slice_get}
+use Rattle.std.specs.List.{list_any}
 use Rattle.vx_base.specs.declared.arithmetic.Code.TheVariants.{Add, ToBranch}
 use Rattle.vx_base.specs.declared.arithmetic.Compare.TheVariants.{Ltu, Ne}
 use Rattle.vx_base.specs.declared.outcome.Trap.{Trap}
 use Rattle.vx_base.specs.declared.outcome.Trap.TheVariants.{Depth as ByDepth}
 use Rattle.vx_flow.specs.declared.graph.Bank.TheVariants.{Branch}
-use Rattle.vx_flow.specs.declared.graph.Flow.{Flow}
+use Rattle.vx_flow.specs.declared.graph.Op.{Op}
 use Rattle.vx_flow.specs.declared.graph.Operand.{Operand}
 use Rattle.vx_flow.specs.Effects.{IsIn}
-use Rattle.vx_flow.specs.Sound.{is_sound_flow}
 use Rattle.vx_isa.specs.declared.operation.GeneralRegister.{GeneralRegister}
 use Rattle.vx_isa.specs.declared.operation.Register.TheVariants.{General as InGeneral, Branch as InBranch}
 use Rattle.vx_isa.specs.declared.operation.Source.{Source}
 use Rattle.vx_isa.specs.declared.operation.Source.TheVariants.{Held, Number}
+use Rattle.vx_isa.specs.declared.operation.Operation.{Operation}
 use Rattle.vx_isa.specs.declared.operation.Operation.TheVariants.{Compute, Move, Select, Load, Store, Goto, BranchOn, Call, Return, FromLink, ToLink, EndByTrap, Halt}
 use Rattle.vx_isa.specs.declared.program.Word.{Word}
 use Rattle.vx_isa.specs.declared.program.WordProgram.{WordProgram}
 use Rattle.vx_isa.specs.Machine.{cycles_of}
-use Rattle.vx_isa.specs.Numbers.{Numbers}
 use Rattle.vx_isa.specs.Paths.{WordAt}
 use Rattle.vx_mixed.specs.declared.layout.Laid.{Laid}
-use Rattle.vx_mixed.specs.declared.layout.Laid.TheVariants.{Split}
+use Rattle.vx_mixed.specs.declared.layout.Laid.TheVariants.{Plain, Split}
 use Rattle.vx_mixed.specs.declared.layout.VirtualWord.{VirtualWord}
 use Rattle.vx_mixed.specs.declared.layout.VirtualWord.TheVariants.{Planned, Drain, Transfer, Choice, Call as Calls, Return as Returns, Ends}
 use Rattle.vx_mixed.specs.declared.layout.VWords.{VWords}
 use Rattle.vx_mixed.specs.declared.mixed.MixedGraph.{MixedGraph}
 use Rattle.vx_mixed.specs.declared.region.Node.TheVariants.{Enters}
-use Rattle.vx_mixed.specs.LaidSettled.{laid_writes}
+use Rattle.vx_mixed.specs.LaidSettled.{laid_reads, laid_writes}
 use Rattle.vx_mixed.specs.Layout.{layout_of, region_place, IsDone}
 use Rattle.vx_mixed.specs.Valid.{Valid}
 use Rattle.vx_regs.specs.declared.map.Kept.TheVariants.{InRegister}
-use Rattle.vx_regs.specs.declared.map.RegMap.{RegMap}
 use Rattle.vx_regs.specs.Mapped.{first_of}
-use Rattle.vx_target.specs.declared.finished.Finished.{Finished}
 use Rattle.vx_target.specs.declared.finished.TracePlaces.{TracePlaces}
-use Rattle.vx_target.specs.Target.{Target, answer, bytes, first_frame, general, holds_branch, is_drain, is_slotted, kept, on_clusters, one, turn, plan_word, slotted, stack_on, stack_steps, waits}
-use Rattle.vx_target.specs.Carried.{CallsAt, NeedsSlot}
-use Rattle.vx_target.specs.Places.{places_in}
-use Rattle.vx_target.specs.Finish.{Finishes}
+use Rattle.vx_target.specs.Target.{Target, answer, bytes, first_frame, general, holds_branch, is_drain, is_slotted, kept, on_clusters, one, carried, branch_of, is_split, slotted, stack_on, stack_steps, waits}
+use Rattle.vx_target.specs.Frames.{CallsAt, NeedsSlot}
+use Rattle.vx_target.specs.PlacesIn.{places_in}
 
 -- places
 
@@ -154,6 +151,33 @@ pub data IsOther (T : Target) (functions place : ℕ) : Word → Type 0 where
   branches : (f q b : ℕ) → f < functions → IsEntrance (T.layout f) q → IsOther T functions place (one (BranchOn b true (T.starts f q)))
   goes_out : (f q : ℕ) → f < functions → IsWayOut T f q → IsOther T functions place (one (Goto (T.starts f q)))
 
+-- words of the plan
+
+-- from place q of a layout transfers lead to d, one after the other; or it is that place
+pub data LeadsOn (l : VWords) (q : ℕ) : (d : ℕ) → Type 0 where
+  no_further : LeadsOn l q q
+  further : (d to : ℕ) → LeadsOn l q d → slice_get l.words d ≡ Some (Transfer to) → LeadsOn l q to
+
+-- The operation that carries an item of a word at place p, which reads and writes these values: on its cluster, with its registers and
+-- numbers. A split leads to where its way out goes on, or, where the word leaves a result for a slot, to its landing.
+pub data CarriesItem (T : Target) (f p : ℕ) (reads writes : List ℕ) : Laid → Operation → Type 0 where
+  plain : (op : Op) (cluster : ℕ) → CarriesItem T f p reads writes (Plain op cluster) (carried T f reads writes cluster op)
+  leaves : (test q d : ℕ) (y : Bool) → slotted T f writes ≡ [] → LeadsOn (T.layout f) q d → CarriesItem T f p reads writes (Split test y q) (BranchOn (branch_of T f reads test) y (T.starts f d))
+  lands : (test q v : ℕ) (y : Bool) → IsIn v (slotted T f writes) → CarriesItem T f p reads writes (Split test y q) (BranchOn (branch_of T f reads test) y (T.landing f p q))
+
+-- item by item, in their order
+abbrev pub CarryItems : Target → (f p : ℕ) → (reads writes : List ℕ) → List Laid → List Operation → Type 0
+CarryItems T f p reads writes [] [] = Unit {0}
+CarryItems T f p reads writes (item ∷ items) (op ∷ ops) = CarriesItem T f p reads writes item op × CarryItems T f p reads writes items ops
+CarryItems T f p reads writes [] (op ∷ ops) = ⊥
+CarryItems T f p reads writes (item ∷ items) [] = ⊥
+
+-- The word of these items: the operations that carry them. Where none is a split and nothing is left for slots, the goto of the
+-- transfer behind may stand with them, as the last one.
+pub data IsPlanWord (T : Target) (f p : ℕ) (items : List Laid) : Word → Type 0 where
+  by_itself : (ops : List Operation) → CarryItems T f p (laid_reads items) (laid_writes items) items ops → IsPlanWord T f p items (record { ops = ops; idle = 0 })
+  and_goes : (ops : List Operation) (to d : ℕ) → CarryItems T f p (laid_reads items) (laid_writes items) items ops → list_any is_split items ≡ false → slotted T f (laid_writes items) ≡ [] → slice_get (T.layout f).words (suc p) ≡ Some (Transfer to) → LeadsOn (T.layout f) to d → IsPlanWord T f p items (record { ops = ops ++ Goto (T.starts f d) ∷ []; idle = 0 })
+
 -- q is the place of word i of region r of function f
 abbrev pub IsPlaceIn : List TracePlaces → List VWords → (f r i q : ℕ) → Type 0
 IsPlaceIn places ls f r i q = slice_get (places_in places ls f r) i ≡ Some q
@@ -185,17 +209,12 @@ abbrev pub cycles_from : List Word → (q n : ℕ) → ℕ
 cycles_from words q zero = 0
 cycles_from words q (suc n) = cycles_at (slice_get words q) + cycles_from words (suc q) n
 
--- At its place each word of the plan stands, with its operations in their order, each on its cluster and with its registers and
--- numbers, and the goto of the place behind, where it can go on by itself; every word that stands at no such place is another one; and
--- others without an operation, one behind the other, last at most 16 cycles together.
+-- At its place each word of the plan stands; every word that stands at no such place is another one; and others without an operation,
+-- one behind the other, last at most 16 cycles together.
 pub record CarriesPlan (T : Target) (ls : List VWords) (places : List TracePlaces) (w : WordProgram) : Type 0 where
-  pub planned : (f p r i : ℕ) (items : List Laid) → f < length ls → slice_get (T.layout f).words p ≡ Some (Planned r i items) → (q : ℕ) × IsPlaceIn places ls f r i q × WordAt w q (plan_word T f p items)
+  pub planned : (f p r i : ℕ) (items : List Laid) → f < length ls → slice_get (T.layout f).words p ≡ Some (Planned r i items) → (q : ℕ) × (word : Word) × IsPlaceIn places ls f r i q × WordAt w q word × IsPlanWord T f p items word
   pub others : (q : ℕ) (word : Word) → WordAt w q word → IsPlanPlace T ls places q ⊎ IsOther T (length ls) q word
   pub idle : (q n : ℕ) → ((i : ℕ) → i < n → IsIdle T ls places w (q + i)) → cycles_from w.words q n ≤ 16
-
--- A goto of a layout leads to an entrance: past transfers, to where the last of them goes.
-abbrev pub TurnLaw : Type 0
-TurnLaw = (T : Target) (f p q : ℕ) → turn T f p ≡ Some q → IsEntrance (T.layout f) q
 
 -- behind a word of a layout another one stands, which is none of empty cycles
 pub record GoesOn (l : VWords) (p : ℕ) : Type 0 where
@@ -220,9 +239,3 @@ SpacedLaw = (m : MixedGraph) → IsSpaced (layout_of m)
 
 abbrev pub AreSpaced : List VWords → Type 0
 AreSpaced ls = (f : ℕ) (l : VWords) → slice_get ls f ≡ Some l → IsSpaced l
-
--- A program that is finished from spaced layouts of a sound flow carries the plan at the places that come with it.
-abbrev pub PlanLaw : Type 0
-PlanLaw =
-    (m : Numbers) (flow : Flow) (ls : List VWords) (maps : List RegMap) (x : Finished) (finishes : Finishes m flow ls maps x) →
-    is_sound_flow flow ≡ true → AreSpaced ls → CarriesPlan finishes.finished.target ls x.places x.program

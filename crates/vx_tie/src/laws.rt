@@ -1,7 +1,8 @@
 // Laws of what words that carry layouts do: the same as the layouts, by the plan. Each is the clause of a function that does nothing.
 
 ghost use Rattle.vx_tie.specs.Moved.{StackLaw};
-ghost use Rattle.vx_tie.specs.Plans.{EntranceLaw, PlanLaw, SpacedLaw, TurnLaw};
+ghost use Rattle.vx_tie.specs.PlanLaws.{EmittedLaw, PlanLaw, TurnLaw};
+ghost use Rattle.vx_tie.specs.Plans.{EntranceLaw, SpacedLaw};
 ghost use Rattle.vx_tie.specs.Planned.{CallLaw, EntryLaw, PlannedLaw, SimpleLaw, StartLaw};
 ghost use Rattle.vx_tie.specs.Returned.{ReturnLaw};
 ghost use Rattle.vx_tie.specs.Whole.{WholeLaw};
@@ -62,6 +63,13 @@ pub fn programs_do_the_same()
 /// without an operation, one behind the other, last at most 16 cycles together.
 pub fn finished_programs_carry_their_plan()
     ensures { PlanLaw }
+{}
+
+/// And it is emitted: its functions stand in the order of their numbers, each with the words of its layout in their order and behind
+/// them what follows the splits that store results, the trap of the depth behind all; no word of a part leads elsewhere in front of
+/// that of the plan; slots and arrays have places of their own in a frame, and memory is the globals and the frames.
+pub fn finished_programs_are_emitted()
+    ensures { EmittedLaw }
 {}
 
 /// Each layout of a graph of regions is spaced: behind its empty cycles and behind its calls a word stands that is none of empty

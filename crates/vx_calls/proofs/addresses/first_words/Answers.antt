@@ -1,7 +1,7 @@
 use Rattle.std.proofs.Common.{◌≡◌, ◌+◌, ◌*◌, true, subst, sym}
 use Rattle.vx_isa.specs.Machine.{memory_at_start}
 use Rattle.vx_isa.specs.Sound.{is_start}
-use Rattle.vx_target.specs.Carried.{first_or_zero}
+use Rattle.vx_target.specs.Frames.{first_or_zero}
 use Rattle.vx_target.specs.Tied.{words_before}
 use Rattle.vx_calls.proofs.Globals.{ascends, starts}
 use Rattle.vx_calls.proofs.addresses.first_words.Goals as goal

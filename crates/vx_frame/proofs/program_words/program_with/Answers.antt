@@ -2,7 +2,7 @@ use Rattle.std.proofs.Common.{◌≡◌, ◌<◌, ◌≤◌, ◌+◌, ◌*◌, �
 use Rattle.vx_flow.specs.declared.graph.Global.{Global}
 use Rattle.vx_isa.specs.Machine.{memory_at_start}
 use Rattle.vx_isa.specs.Sound.{is_start}
-use Rattle.vx_target.specs.Carried.{first_or_zero}
+use Rattle.vx_target.specs.Frames.{first_or_zero}
 use Rattle.vx_target.specs.Tied.{words_before}
 use Rattle.vx_frame.proofs.program_words.program_with.Goals as goal
 
