@@ -5,9 +5,10 @@ use Rattle.vx_flow.specs.declared.trace.TraceOp.{TraceOp}
 use Rattle.vx_flow.specs.Effects.{IsIn}
 use Rattle.vx_room.specs.Room.{home_of}
 use Rattle.vx_dep.specs.Delays.{writes_of}
+use Rattle.vx_bug.specs.CanAssign.{IsFree}
 use Rattle.vx_bug.specs.ClustersExample.{sum, uses, crossed, joined_at}
 use Rattle.vx_copy_laws.specs.CopyStands.{ReadsAway, WriterBetween, IsServed}
-use Rattle.vx_copy_laws.specs.CopiesExample.{rewritten, changed, CopiesExample}
+use Rattle.vx_copy_laws.specs.CopiesExample.{rewritten, changed, compensated, CopiesExample}
 
 -- v1 is read on cluster 0
 
@@ -31,6 +32,13 @@ behind_writer_reads = record { op = sum 3 1 (Number (pos 3)); stands = refl; tak
 
 behind_itself_reads : ReadsAway changed (home_of crossed) (0 ∷ 0 ∷ []) 1 1 0
 behind_itself_reads = record { op = sum 3 1 (Number (pos 2)); stands = refl; takes = refl; no_compensation = refl; no_copy = refl; reads = inl refl; home = 1; lives = refl; elsewhere = one_is_away }
+
+beside_compensation_reads : ReadsAway compensated (home_of crossed) (0 ∷ 0 ∷ []) 1 1 0
+beside_compensation_reads = record { op = sum 3 1 (Number (pos 2)); stands = refl; takes = refl; no_compensation = refl; no_copy = refl; reads = inl refl; home = 1; lives = refl; elsewhere = one_is_away }
+
+-- one that was copied as compensation reads nothing away
+compensation_reads_none : ReadsAway compensated (home_of crossed) (0 ∷ 0 ∷ []) 0 1 0 → ⊥
+compensation_reads_none r = let e : IsFree compensated 0 = r.no_compensation in absurd (cc)
 
 -- the second operation is served by the copy of the first
 
@@ -59,6 +67,9 @@ example = record {
     first = λ s. let u = s.above in s.no_writer (record { place = 0; op = sum 1 1 (Number (pos 1)); stands = refl; from = omega (arith, u); above = omega arith; writes = inl refl });
   };
   ops_changed = refl;
+  none_needed = λ s. compensation_reads_none s.reads;
+  not_served = record { reads = beside_compensation_reads; first = λ s. not_by s.reader s.above s.reads };
+  ops_compensated = refl;
   both = refl;
 }
   where
@@ -67,6 +78,10 @@ example = record {
       where
         by : (r : ℕ) → r < 2 → ReadsAway rewritten (home_of crossed) (0 ∷ 1 ∷ 0 ∷ []) r 1 0 → (WriterBetween rewritten 1 r 2 → ⊥) → ⊥
         by r l reads none = none (record { place = 1; op = sum 1 1 (Number (pos 2)); stands = refl; from = omega (arith, l); above = omega arith; writes = inl refl })
+
+    not_by : (r : ℕ) → r < 1 → ReadsAway compensated (home_of crossed) (0 ∷ 0 ∷ []) r 1 0 → ⊥
+    not_by zero l reads = compensation_reads_none reads
+    not_by (suc r) l reads = omega (arith, l)
 
     home_is_one : ReadsAway rewritten (home_of crossed) (0 ∷ 1 ∷ 0 ∷ []) 1 1 1 → ⊥
     home_is_one r =

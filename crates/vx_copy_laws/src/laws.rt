@@ -21,7 +21,7 @@ pub fn one_clustered_trace()
 {}
 
 /// Worked rows: one copy for two readers, and two where a join or a writer of the value is between them, or the first of them writes
-/// the value itself.
+/// the value itself; none for one that was copied as compensation.
 pub fn copies_example_law()
     ensures { CopiesExample }
 {}

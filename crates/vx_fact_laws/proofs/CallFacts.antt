@@ -1,17 +1,18 @@
 -- Facts are sound over calls: at the entry of what is called, and behind it.
-use Rattle.std.proofs.Common.{◌≡◌, ℕ, Bool, true, false, ℤ, Option, Some, None, List, [], ◌∷◌, map, subst}
+use Rattle.std.proofs.Common.{◌≡◌, inl, inr, refl, zero, suc, ◌==◌, if◌then◌else◌, ◌++◌, ℕ, Bool, true, false, ℤ, Option, Some, None, List, [], ◌∷◌, map, subst}
+use Rattle.std.specs.Prelude.{slice_index_or, take}
 use Rattle.vx_flow.specs.declared.graph.Operand.{Operand}
-use Rattle.vx_flow.specs.Effects.{Content, State, Setting, held}
-use Rattle.vx_flow.specs.Meaning.{known, with_front, at_entry}
+use Rattle.vx_flow.specs.Effects.{Content, State, Setting, IsIn, held}
+use Rattle.vx_flow.specs.Meaning.{known, with_front, at_entry, entered, undefined, with_result}
 use Rattle.vx_claims.specs.declared.intervals.Interval.{Interval}
 use Rattle.vx_claims.specs.declared.access.Access.{Access}
 use Rattle.vx_claims.specs.declared.fact.Fact.{Fact}
-use Rattle.vx_claims.specs.Facts.{Within, AllHold, range_of, names, kept_if, without, is_full, between_unless}
+use Rattle.vx_claims.specs.Facts.{full, Within, AllHold, range_of, names, kept_if, without, is_full, between_unless}
 use Rattle.vx_claims.specs.Claims.{is_inside}
 use Rattle.vx_narrow.specs.Checking.{are_passed, lie_in}
 use Rattle.vx_narrow.proofs.Ranges.{and_one, and_two}
 use Rattle.vx_narrow.proofs.Operations.{without_holds, lies_hold}
-use Rattle.vx_fact_laws.specs.FactLaws.{Describe, EntryLaw, ReturnLaw}
+use Rattle.vx_fact_laws.specs.FactLaws.{Describe, EntryLaw, EnteredLaw, ReturnLaw, ReturnedLaw}
 use Rattle.vx_fact_laws.proofs.FactSteps.{range_law, inside_holds}
 
 -- each number lies in the interval of its place
@@ -75,3 +76,72 @@ entry_law setting s fs xs arguments is parameters numbers d e k = entry_holds pa
 pub return_law : ReturnLaw
 return_law values fs None n h = h
 return_law values fs (Some r) n h = without_holds values r (Some n) fs h
+
+-- ---- states
+
+abbrev Fits : List Content → Type 0
+Fits row = (i : ℕ) → Within full (slice_index_or row i None)
+
+abbrev AllFit : List (List Content) → Type 0
+AllFit rows = (a : ℕ) → Fits (slice_index_or rows a [])
+
+undefined_fits : (n : ℕ) → Fits (undefined n)
+undefined_fits zero i = tt
+undefined_fits (suc n) zero = tt
+undefined_fits (suc n) (suc i) = undefined_fits n i
+
+none_fit : AllFit []
+none_fit a i = tt
+
+more_fit : (row : List Content) (rows : List (List Content)) → Fits row → AllFit rows → AllFit (row ∷ rows)
+more_fit row rows f g zero = f
+more_fit row rows f g (suc a) = g a
+
+rest_fit : (row : List Content) (rows : List (List Content)) → AllFit (row ∷ rows) → AllFit rows
+rest_fit row rows f a = f (suc a)
+
+own_fit : (own : List ℕ) → AllFit (map undefined own)
+own_fit [] = none_fit
+own_fit (n ∷ own) = more_fit (undefined n) (map undefined own) (undefined_fits n) (own_fit own)
+
+both_fit : (rows more : List (List Content)) → AllFit rows → AllFit more → AllFit (rows ++ more)
+both_fit [] more f g = g
+both_fit (row ∷ rows) more f g = more_fit row (rows ++ more) (f 0) (both_fit rows more (rest_fit row rows f) g)
+
+some_fit : (n : ℕ) (rows : List (List Content)) → AllFit rows → AllFit (take n rows)
+some_fit zero rows f = none_fit
+some_fit (suc n) [] f = none_fit
+some_fit (suc n) (row ∷ rows) f = more_fit row (take n rows) (f 0) (some_fit n rows (rest_fit row rows f))
+
+passed_fit : (qs : List ℕ) (ns : List ℤ) → ((n : ℤ) → IsIn n ns → Within full (Some n)) → (v : ℕ) → Within full (at_entry qs ns v)
+passed_fit [] ns h v = tt
+passed_fit (q ∷ qs) [] h v = tt
+passed_fit (q ∷ qs) (n ∷ ns) h v = by (v == q) (passed_fit qs ns (λ m i. h m (inr i)) v)
+  where
+    by : (t : Bool) → Within full (at_entry qs ns v) → Within full (if t then Some n else at_entry qs ns v)
+    by true k = h n (inl refl)
+    by false k = k
+
+pub entered_law : EnteredLaw
+entered_law setting inner s fs xs arguments is body numbers d e k h =
+    record {
+      facts = entry_law setting s fs xs arguments is body.parameters numbers d e k;
+      accesses = tt;
+      numbers = record { values = passed_fit body.parameters numbers h; words = both_fit s.arrays (map undefined body.own) d.numbers.words (own_fit body.own); input = d.numbers.input };
+    }
+
+back_fits : (values : ℕ → Content) (result : Option ℕ) (n : ℤ) → ((v : ℕ) → Within full (values v)) → Within full (Some n) → (v : ℕ) → Within full (with_result values result n v)
+back_fits values None n f w v = f v
+back_fits values (Some r) n f w v = by (v == r)
+  where
+    by : (t : Bool) → Within full (if t then Some n else values v)
+    by true = w
+    by false = f v
+
+pub returned_law : ReturnedLaw
+returned_law setting s u fs xs result n base d h w =
+    record {
+      facts = return_law s.values fs result n d.facts;
+      accesses = tt;
+      numbers = record { values = back_fits s.values result n d.numbers.values w; words = some_fit base u.arrays h.words; input = h.input };
+    }

@@ -21,8 +21,9 @@ use Rattle.vx_narrow.proofs.Equal.{has_holds}
 use Rattle.vx_narrow.proofs.Tests.{side_holds, decided_side}
 use Rattle.vx_narrow.proofs.Operations.{held_is, NumbersFit, StateFit}
 use Rattle.vx_narrow.proofs.Accesses.{accessed_tell, tell_holds}
+use Rattle.vx_narrow.proofs.Products.{shortened_same}
 use Rattle.vx_narrow.proofs.Behind.{Follows, form_follows, Known, KeepsKnown, form_known}
-use Rattle.vx_fact_laws.specs.FactLaws.{HasNumbers, Describe, BehindLaw, AccessLaw, BlockLaw, SideLaw, GivenLaw, NeverLaw, RangeLaw, DecidedLaw, FormLaw}
+use Rattle.vx_fact_laws.specs.FactLaws.{HasNumbers, Describe, BehindLaw, AccessLaw, BlockLaw, SideLaw, GivenLaw, NeverLaw, RangeLaw, DecidedLaw, FormLaw, ShortenedLaw}
 
 -- ---- states
 
@@ -71,6 +72,9 @@ form_law setting low s t fs xs op n d e = by (form_follows setting s fs xs op lo
     by : Follows setting s op (form fs xs op) → effect setting s (form fs xs op) s ≡ Some t
     by (inl none) = let f : Option.None ≡ Some t = sym none ∙ e in absurd (cc)
     by (inr same) = same.0 ∙ e
+
+pub shortened_law : ShortenedLaw
+shortened_law setting s fs xs op d = shortened_same setting s fs (known_of setting fs xs s d).good op
 
 -- ---- tests
 

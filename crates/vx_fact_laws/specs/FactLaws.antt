@@ -1,12 +1,12 @@
 -- Which states facts describe, and that what the analysis makes of facts is sound.
-use Rattle.std.specs.Prelude.{◌≡◌, ◌<◌, ℕ, Bool, true, ℤ, pos, Option, Some, None, List, [], ◌∷◌, map, slice_index_or}
+use Rattle.std.specs.Prelude.{◌≡◌, ◌<◌, ℕ, Bool, true, ℤ, pos, Option, Some, None, List, [], ◌∷◌, map, slice_index_or, take}
 use Rattle.std.specs.List.{list_all}
 use Rattle.vx_flow.specs.declared.graph.Operand.{Operand}
 use Rattle.vx_flow.specs.declared.graph.Op.{Op}
 use Rattle.vx_flow.specs.declared.graph.Array.{Array}
 use Rattle.vx_flow.specs.Apart.{StandApart}
 use Rattle.vx_flow.specs.Effects.{Content, State, Setting, IsIn, held, is_one, row_of, effect}
-use Rattle.vx_flow.specs.Meaning.{known, at_entry, with_result}
+use Rattle.vx_flow.specs.Meaning.{Body, known, at_entry, entered, with_result}
 use Rattle.vx_claims.specs.declared.intervals.Interval.{Interval}
 use Rattle.vx_claims.specs.declared.access.Access.{Access}
 use Rattle.vx_claims.specs.declared.claim.Claim.{Claim}
@@ -16,6 +16,7 @@ use Rattle.vx_claims.specs.Facts.{full, Within, AllHold, range_of, residue_of, w
 use Rattle.vx_claims.specs.Accesses.{AllTell, accessed, tell}
 use Rattle.vx_claims.specs.Forming.{form, after_known, after_from, accessed_from}
 use Rattle.vx_claims.specs.Claims.{is_never, give}
+use Rattle.vx_narrow.specs.Shortening.{shortened}
 use Rattle.vx_narrow.specs.Checking.{most_arrays, has_numbers, are_passed, lie_in}
 
 -- each number of a state has 32 bits: those of its values, of the words of its arrays and of the input that is left
@@ -67,9 +68,21 @@ EntryLaw =
     (setting : Setting) (s : State) (fs : List Fact) (xs : List Access) (arguments : List Operand) (is : List Interval) (parameters : List ℕ) (numbers : List ℤ) → Describe setting fs xs s → are_passed fs arguments is ≡ true →
     known (map (held s) arguments) ≡ Some numbers → AllHold (at_entry parameters numbers) (lie_in parameters is)
 
+-- the state there is then described by that alone: nothing is known of arrays
+abbrev pub EnteredLaw : Type 0
+EnteredLaw =
+    (setting inner : Setting) (s : State) (fs : List Fact) (xs : List Access) (arguments : List Operand) (is : List Interval) (body : Body) (numbers : List ℤ) → Describe setting fs xs s → are_passed fs arguments is ≡ true →
+    known (map (held s) arguments) ≡ Some numbers → ((n : ℤ) → IsIn n numbers → Within full (Some n)) → Describe inner (lie_in body.parameters is) [] (entered body numbers s)
+
 -- and behind it, whatever number it gives, the facts hold that do not name its result
 abbrev pub ReturnLaw : Type 0
 ReturnLaw = (values : ℕ → Content) (fs : List Fact) (result : Option ℕ) (n : ℤ) → AllHold values fs → AllHold (with_result values result n) (without_written result fs)
+
+-- where s is the state at the call, and u the one in which it ends, they describe the state that the caller goes on with
+abbrev pub ReturnedLaw : Type 0
+ReturnedLaw =
+    (setting : Setting) (s u : State) (fs : List Fact) (xs : List Access) (result : Option ℕ) (n : ℤ) (base : ℕ) → Describe setting fs xs s → HasNumbers u → Within full (Some n) →
+    Describe setting (without_written result fs) [] (record u { values = with_result s.values result n; arrays = take base u.arrays })
 
 -- the order is sound: a claim that facts and accesses give describes each state that they describe
 abbrev pub GivenLaw : Type 0
@@ -92,3 +105,7 @@ DecidedLaw = (setting : Setting) (s : State) (fs : List Fact) (xs : List Access)
 abbrev pub FormLaw : Type 0
 FormLaw =
     (setting : Setting) → StandLow setting.spot → (s t : State) (fs : List Fact) (xs : List Access) (op : Op) → has_numbers op ≡ true → Describe setting fs xs s → effect setting s op s ≡ Some t → effect setting s (form fs xs op) s ≡ Some t
+
+-- in one operation for two half products and their sum, or with a mask of one further behind, it does too
+abbrev pub ShortenedLaw : Type 0
+ShortenedLaw = (setting : Setting) (s : State) (fs : List Fact) (xs : List Access) (op : Op) → Describe setting fs xs s → effect setting s (shortened fs op) s ≡ effect setting s op s

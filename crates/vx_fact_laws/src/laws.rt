@@ -2,7 +2,7 @@
 // accesses of its arrays, describes a set of states; what vx_claims answers behind it describes those that come of them (Cousot and
 // Cousot, 1977).
 
-ghost use Rattle.vx_fact_laws.specs.FactLaws.{AccessLaw, BehindLaw, BlockLaw, DecidedLaw, EntryLaw, FormLaw, GivenLaw, NeverLaw, RangeLaw, ReturnLaw, SideLaw};
+ghost use Rattle.vx_fact_laws.specs.FactLaws.{AccessLaw, BehindLaw, BlockLaw, DecidedLaw, EnteredLaw, EntryLaw, FormLaw, GivenLaw, NeverLaw, RangeLaw, ReturnLaw, ReturnedLaw, ShortenedLaw, SideLaw};
 
 /// What describes the state before an operation makes what is told behind it describe the state behind it.
 pub fn facts_hold_behind_operations()
@@ -21,10 +21,12 @@ pub fn facts_hold_on_sides()
 {}
 
 /// Where each argument of a call lies by the facts in the interval of its place, the parameters lie there at the entry; behind the
-/// call those facts hold that do not name its result.
+/// call those facts hold that do not name its result. So both describe the states there, with nothing known of arrays.
 pub fn facts_hold_over_calls()
     ensures entry { EntryLaw }
+    ensures entered { EnteredLaw }
     ensures back { ReturnLaw }
+    ensures returned { ReturnedLaw }
 {}
 
 /// A claim that facts give describes each state that they describe; facts that say that no run comes there describe none.
@@ -43,7 +45,8 @@ pub fn decided_tests_come_out_so()
     ensures { DecidedLaw }
 {}
 
-/// In the form that facts give it an operation does what it did.
+/// In the form that facts give it an operation does what it did; so it does where it stands for several.
 pub fn forms_do_the_same()
-    ensures { FormLaw }
+    ensures form { FormLaw }
+    ensures shortened { ShortenedLaw }
 {}

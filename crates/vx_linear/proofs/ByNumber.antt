@@ -10,7 +10,8 @@ use Rattle.vx_base.specs.declared.arithmetic.Code.TheVariants.{Shl, Mpylu, Mpyhs
 use Rattle.vx_base.specs.Arithmetic.{wrap, unsigned, shift_by, sum_of, shl_of, mpylu_of, mpyhs_of, value_of}
 use Rattle.vx_base.proofs.WrapLaws.{wrap-unsigned_times, wrap-unsigned_product}
 use Rattle.vx_linear.specs.Followed.{are_two}
-use Rattle.vx_linear.proofs.Reduced.{Like, like_wrap, like_product}
+use Rattle.vx_linear.specs.Amounts.{Like}
+use Rattle.vx_linear.proofs.Reduced.{like_wrap, like_product}
 
 -- an operation that multiplies by m multiplies by what it makes of 1
 by_one : (one whole x m : ℤ) → whole ≡ wrap (x *ℤ m) → one ≡ wrap (pos 1 *ℤ m) → Like whole (one *ℤ x)

@@ -21,7 +21,7 @@ use Rattle.vx_linear.specs.Followed.{Above, writes_it, made_or_entry_place, know
 use Rattle.vx_linear.specs.Writers.{writes_there, writer}
 use Rattle.vx_linear.specs.InOrder.{in_order, IsEntrance}
 use Rattle.vx_linear.proofs.Writing.{place_symbol_by, place_symbol_law}
-use Rattle.vx_linear.proofs.Reduced.{amount}
+use Rattle.vx_linear.specs.Amounts.{amount}
 use Rattle.vx_linear.proofs.InOrder.{with_value_there, kept, written_there_is, after, state_at, state_at_next}
 use Rattle.vx_linear.proofs.Told.{Tells, some_is, no_some}
 use Rattle.vx_linear.proofs.Stands.{quarter_of, result_of, stands, result_by, by_writer, AllTold, all_told}

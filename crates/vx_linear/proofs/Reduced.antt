@@ -9,15 +9,12 @@ use Rattle.vx_base.proofs.WrapLaws.{wrap_fits}
 use Rattle.vx_linear.specs.declared.form.Symbol.{Symbol}
 use Rattle.vx_linear.specs.declared.form.Term.{Term}
 use Rattle.vx_linear.specs.declared.linear.Linear.{Linear}
+use Rattle.vx_linear.specs.Amounts.{amount, Like, AmountLaw}
 use Rattle.vx_linear.specs.Forms.{sum_at, is_before, is_same}
-use Rattle.vx_linear.specs.Linear.{unless_zero, with_term, with_terms, scaled, plus, times, minus, same}
+use Rattle.vx_linear.specs.Linear.{constant, symbol, unless_zero, with_term, with_terms, scaled, plus, times, minus, same}
 use Rattle.vx_linear.proofs.Products.{add_times, times_times}
 use Rattle.vx_linear.proofs.Symbols.{same_is, first-true, second-true}
 use Rattle.vx_linear.proofs.Equal.{int_is, terms_are}
-
--- numbers that are reduced alike
-abbrev pub Like : ℤ → ℤ → Type 0
-Like a b = wrap a ≡ wrap b
 
 pub like_wrap : (a : ℤ) → Like (wrap a) a
 like_wrap a = int_wrap_fits w32 (wrap a) (wrap_fits a)
@@ -33,9 +30,6 @@ like_product a b x y h k =
     ∙ sym (int_wrap-mul_right w32 x b) ∙ ap (λ z. wrap (x *ℤ z)) k ∙ int_wrap-mul_right w32 x y
 
 -- ---- what a sum of terms comes to, for numbers of the symbols
-
-abbrev pub amount : (Symbol → ℤ) → Linear → ℤ
-amount s a = a.constant +ℤ sum_at s a.terms
 
 module _ (s : Symbol → ℤ) where
   sum_unless_zero : (t : Term) (ts : List Term) → sum_at s (unless_zero t ts) ≡ t.factor *ℤ s t.symbol +ℤ sum_at s ts
@@ -129,3 +123,20 @@ module _ (s : Symbol → ℤ) where
 pub amount_same : (s : Symbol → ℤ) (a b : Linear) → same a b ≡ true → amount s a ≡ amount s b
 amount_same s a b h =
     ap (λ z. z +ℤ sum_at s a.terms) (int_is a.constant b.constant (first-true _ _ h)) ∙ ap (λ ts. b.constant +ℤ sum_at s ts) (terms_are a.terms b.terms (second-true _ _ h))
+
+-- ---- the law
+
+of_number : (s : Symbol → ℤ) (n : ℤ) → Like (amount s (constant n)) n
+of_number s n = ap wrap (alone n)
+  where
+    alone : (n : ℤ) → n +ℤ pos 0 ≡ n
+    alone n = omega (arith, ints)
+
+of_symbol : (s : Symbol → ℤ) (x : Symbol) → Like (amount s (symbol x)) (s x)
+of_symbol s x = ap wrap (once (s x))
+  where
+    once : (n : ℤ) → pos 0 +ℤ (pos 1 *ℤ n +ℤ pos 0) ≡ n
+    once n = omega (arith, ints)
+
+pub amount_law : AmountLaw
+amount_law = record { of_number = of_number; of_symbol = of_symbol; of_sum = amount_plus; of_difference = amount_minus; of_product = amount_times }

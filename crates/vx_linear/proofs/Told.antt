@@ -18,7 +18,8 @@ use Rattle.vx_linear.specs.declared.known_values.Known.{Known}
 use Rattle.vx_linear.specs.Linear.{constant, symbol, plus, minus, same}
 use Rattle.vx_linear.specs.Followed.{plain, number_in, common, are_two, are_halves, by_number, product_or, times_or, by_half, computed}
 use Rattle.vx_linear.proofs.Symbols.{first-true, second-true}
-use Rattle.vx_linear.proofs.Reduced.{Like, like_wrap, like_sum, like_product, amount, amount_plus, amount_times, amount_minus, amount_same}
+use Rattle.vx_linear.specs.Amounts.{amount, Like}
+use Rattle.vx_linear.proofs.Reduced.{like_wrap, like_sum, like_product, amount_plus, amount_times, amount_minus, amount_same}
 use Rattle.vx_linear.proofs.ByNumber.{half_code, shl_by_one, mpylu_by_one, mpyhs_by_one, sum_of_halves}
 
 -- where the content is a number, the form comes to it

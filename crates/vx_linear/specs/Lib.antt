@@ -1,5 +1,6 @@
 pub mod Forms
 pub mod Linear
+pub mod Amounts
 pub mod Followed
 pub mod Steps
 pub mod Writers

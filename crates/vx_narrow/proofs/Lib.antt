@@ -1,5 +1,5 @@
 mod Masks
-mod Products
+pub mod Products
 mod NearPlaces
 pub mod Congruences
 pub mod Residues
