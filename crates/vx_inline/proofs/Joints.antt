@@ -1,5 +1,5 @@
 -- What comes into a caller, as it is made; and that the flow with it is the one with the call inlined.
-use Rattle.std.proofs.Common.{◌≡◌, ◌↔◌, ℕ, suc, ◌+◌, Bool, true, false, cond, ◌==◌, List, [], ◌∷◌, ◌++◌, length, map, take, slice_get, slice_set, Option, Some, refl, sym, ap, ◌∙◌, subst, arith, eqb-true, IsTrue}
+use Rattle.std.proofs.Common.{◌≡◌, ◌↔◌, ◌<◌, ◌≤◌, ℕ, zero, suc, ◌+◌, Bool, true, false, cond, ◌==◌, List, [], ◌∷◌, ◌++◌, length, map, take, drop, get_or, set, slice_get, slice_set, Option, Some, refl, sym, ap, ◌∙◌, subst, arith, eqb-true, IsTrue}
 use Rattle.std.specs.List.{filter}
 use Rattle.vx_base.specs.declared.outcome.Trap.{Trap}
 use Rattle.vx_flow.specs.declared.graph.Bank.{Bank}
@@ -66,35 +66,32 @@ joint_found flow site c joint e j d free p =
 
 -- ---- the blocks of the caller
 
-pub longer_by : (xs : List Block) (x : Block) → length (xs ++ x ∷ []) ≡ length xs + 1
-longer_by [] x = refl
-longer_by (y ∷ ys) x = let e : length (ys ++ x ∷ []) ≡ length ys + 1 = longer_by ys x in omega (arith, e)
+-- those up to block i are placed, the others are as they were
+placed_set : (joint : Joint) (site b : ℕ) (blocks : List Block) (i : ℕ) (z new : Block) → i < length blocks → new ≡ placed_block joint site (b + i) (get_or (placed_from joint site b (take i blocks) ++ drop i blocks) i z) →
+    set (placed_from joint site b (take i blocks) ++ drop i blocks) i new ≡ placed_from joint site b (take (suc i) blocks) ++ drop (suc i) blocks
+placed_set joint site b [] i z new l e = absurd (omega (arith, l))
+placed_set joint site b (x ∷ xs) zero z new l e = let q : b + 0 ≡ b = omega arith in ap (λ y. y ∷ xs) (e ∙ ap (λ k. placed_block joint site k x) q)
+placed_set joint site b (x ∷ xs) (suc i) z new l e =
+    let q : b + suc i ≡ suc b + i = omega arith in
+    let low : i < length xs = omega (arith, l) in
+    ap (λ ys. placed_block joint site b x ∷ ys) (placed_set joint site (suc b) xs i z new low (e ∙ ap (λ k. placed_block joint site k (get_or (placed_from joint site (suc b) (take i xs) ++ drop i xs) i z)) q))
 
--- the rest is as long as it says, where it was so before
-pub rest_is : (before rest : List Block) (x : Block) (many left : ℕ) → before ≡ x ∷ rest → left + 1 ≡ many → length before ≡ many → length rest ≡ left
-rest_is before rest x many left e k n = let z : length before ≡ length (x ∷ rest) = ap (λ (blocks : List Block). length blocks) e in omega (arith, z, k, n)
+pub placed_next : (joint : Joint) (site place : ℕ) (blocks now : List Block) (i : ℕ) (z new : Block) → place ≡ i → length now ≡ length blocks → i < length now → now ≡ placed_from joint site 0 (take i blocks) ++ drop i blocks → new ≡ placed_block joint site place (get_or now i z) →
+    set now i new ≡ placed_from joint site 0 (take (i + 1) blocks) ++ drop (i + 1) blocks
+placed_next joint site place blocks now i z new p n l h e =
+    let q : suc i ≡ i + 1 = omega arith in
+    let low : i < length blocks = omega (arith, l, n) in
+    let at : place ≡ 0 + i = omega (arith, p) in
+    ap (λ ys. set ys i new) h ∙ placed_set joint site 0 blocks i z new low (e ∙ ap (λ k. placed_block joint site k (get_or now i z)) at ∙ ap (λ ys. placed_block joint site (0 + i) (get_or ys i z)) h) ∙ ap (λ k. placed_from joint site 0 (take k blocks) ++ drop k blocks) q
 
--- one block more
-filter_front : (xs ys : List Block) → filter is_plain (xs ++ ys) ≡ filter is_plain xs ++ filter is_plain ys
-filter_front [] ys = refl
-filter_front (x ∷ xs) ys = by (is_plain x) (filter_front xs ys)
-  where
-    by : (t : Bool) → filter is_plain (xs ++ ys) ≡ filter is_plain xs ++ filter is_plain ys → cond t (x ∷ filter is_plain (xs ++ ys)) (filter is_plain (xs ++ ys)) ≡ cond t (x ∷ filter is_plain xs) (filter is_plain xs) ++ filter is_plain ys
-    by true e = ap (λ l. x ∷ l) e
-    by false e = e
+placed_done : (joint : Joint) (site b : ℕ) (blocks : List Block) (i : ℕ) → length blocks ≤ i → placed_from joint site b (take i blocks) ++ drop i blocks ≡ placed_from joint site b blocks
+placed_done joint site b [] zero l = refl
+placed_done joint site b [] (suc i) l = refl
+placed_done joint site b (x ∷ xs) zero l = absurd (omega (arith, l))
+placed_done joint site b (x ∷ xs) (suc i) l = let m : length xs ≤ i = omega (arith, l) in ap (λ ys. placed_block joint site b x ∷ ys) (placed_done joint site (suc b) xs i m)
 
-placed_more : (joint : Joint) (site b : ℕ) (xs : List Block) (x : Block) → placed_from joint site b (xs ++ x ∷ []) ≡ placed_from joint site b xs ++ placed_block joint site (b + length xs) x ∷ []
-placed_more joint site b [] x = let z : b ≡ b + 0 = omega arith in ap (λ k. placed_block joint site k x ∷ []) z
-placed_more joint site b (y ∷ ys) x =
-    let z : suc b + length ys ≡ b + suc (length ys) = omega arith in
-    ap (λ l. placed_block joint site b y ∷ l) (placed_more joint site (suc b) ys x ∙ ap (λ k. placed_from joint site (suc b) ys ++ placed_block joint site k x ∷ []) z)
-
-pub placed_next : (joint : Joint) (site place : ℕ) (xs : List Block) (x : Block) (now new : List Block) → place ≡ length xs → now ≡ filter is_plain (placed_from joint site 0 xs) → new ≡ now ++ filter is_plain (placed_block joint site place x ∷ []) →
-    new ≡ filter is_plain (placed_from joint site 0 (xs ++ x ∷ []))
-placed_next joint site place xs x now new n h e =
-    let z : place ≡ 0 + length xs = omega (arith, n) in
-    e ∙ ap (λ l. l ++ filter is_plain (placed_block joint site place x ∷ [])) h ∙ ap (λ k. filter is_plain (placed_from joint site 0 xs) ++ filter is_plain (placed_block joint site k x ∷ [])) z ∙
-    sym (filter_front (placed_from joint site 0 xs) (placed_block joint site (0 + length xs) x ∷ [])) ∙ ap (filter is_plain) (sym (placed_more joint site 0 xs x))
+pub placed_last : (joint : Joint) (site : ℕ) (blocks now : List Block) (i : ℕ) → length blocks ≤ i → now ≡ placed_from joint site 0 (take i blocks) ++ drop i blocks → now ≡ placed_from joint site 0 blocks
+placed_last joint site blocks now i l h = h ∙ placed_done joint site 0 blocks i l
 
 -- ---- the flow with the call inlined
 

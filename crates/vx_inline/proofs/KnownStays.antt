@@ -1,5 +1,5 @@
 -- What is known of a flow is known of it still with a call inlined.
-use Rattle.std.proofs.Common.{◌≡◌, ◌⊎◌, ◌↔◌, inl, inr, ℕ, zero, suc, ◌+◌, ◌<◌, ◌≤◌, Bool, true, false, cond, ◌==◌, List, [], ◌∷◌, ◌++◌, length, slice_get, slice_set, get_or, not, drop, Option, Some, refl, sym, ap, ◌∙◌, subst, eq-eqb, eqb-true, lt-ltb, ltb-true, arith, IsTrue}
+use Rattle.std.proofs.Common.{◌≡◌, ◌⊎◌, ◌↔◌, inl, inr, ℕ, zero, suc, ◌+◌, ◌<◌, ◌≤◌, Bool, true, false, cond, ◌==◌, List, [], ◌∷◌, ◌++◌, length, map, slice_get, slice_set, get_or, not, drop, Option, Some, refl, sym, ap, ◌∙◌, subst, eq-eqb, eqb-true, lt-ltb, ltb-true, arith, IsTrue}
 use Rattle.std.proofs.lemmas.Bool.{false≢true}
 use Rattle.std.proofs.lemmas.Option.{slice_get_within}
 use Rattle.vx_flow.specs.declared.graph.Bank.{Bank}
@@ -22,12 +22,13 @@ use Rattle.vx_inline.specs.Counts.{is_call}
 use Rattle.vx_inline.specs.Fitting.{calls_nothing, is_calling}
 use Rattle.vx_inline.specs.Finding.{call_in}
 use Rattle.vx_inline.specs.Inlined.{TheCall, CallAt, CallsTo, Inlined, IsPermitted, OnCycle, Reaches, is_plain, moved, critical, behind, relinked_exit, all_plain, caller_at, callee_at, joined, taken, inlined_blocks}
-use Rattle.vx_inline.specs.Keeping.{Passes, KnowsBehind, KnowsLive, KnowsApart, KnowsSite, Knows, KeepsKnown, KeepsSite, LiveFor, NextKnown, front_of, returns_below, calls_stay}
+use Rattle.vx_inline.specs.Keeping.{Passes, IsSiteBare, KnowsBare, KnowsBehind, KnowsLive, KnowsApart, KnowsSite, Knows, KeepsKnown, KeepsSite, LiveFor, NextKnown, front_of, returns_below, calls_stay}
 use Rattle.vx_inline.specs.declared.known.Known.{Known}
 use Rattle.vx_inline.specs.Permitting.{HasEnough, StandsApart}
-use Rattle.vx_inline.specs.Values.{has_values}
+use Rattle.vx_inline.specs.Values.{has_values, is_bare}
+use Rattle.vx_inline.proofs.BareBlocks.{bare_inlined}
 use Rattle.vx_inline.proofs.Candidates.{behind_known, enough_known}
-use Rattle.vx_inline.proofs.Finds.{call_there}
+use Rattle.vx_inline.proofs.Finds.{CallFound, call_found, call_there}
 use Rattle.vx_inline.proofs.Counts.{linked_calls, copied_calls, callee_calls_none}
 use Rattle.vx_inline.proofs.Depth.{get_in}
 use Rattle.vx_inline.proofs.Edges.{in_there, Kept, AnEdge, ATrap, from_where}
@@ -168,6 +169,20 @@ module _ (flow : Flow) (site : Site) (c : CallAt flow site) (free : Bank → Lis
       let o : CallFrom g next xs result = call_from g next xs result h in
       record { graph = c.parts.caller; is = ap (slice_get flow.functions) e ∙ c.is_caller; arguments = xs; result = result; next = o.old; has = o.has }
 
+-- ---- marks
+
+marked_there : (marks : List Bool) (f : ℕ) (is : Bool) → is_marked (slice_set marks f is) f ≡ true → is ≡ true
+marked_there [] f is e = absurd (false≢true e)
+marked_there (m ∷ ms) zero is e = e
+marked_there (m ∷ ms) (suc f) is e = marked_there ms f is e
+
+marked_other : (marks : List Bool) (f g : ℕ) (is : Bool) → (g ≡ f → ⊥) → is_marked (slice_set marks f is) g ≡ is_marked marks g
+marked_other [] f g is n = refl
+marked_other (m ∷ ms) zero zero is n = absurd (n refl)
+marked_other (m ∷ ms) zero (suc g) is n = refl
+marked_other (m ∷ ms) (suc f) zero is n = refl
+marked_other (m ∷ ms) (suc f) (suc g) is n = marked_other ms f g is (λ e. n (ap suc e))
+
 -- ---- rows
 
 other_row : {X : Type 0} (rows : List (List X)) (p q : ℕ) (x : List X) → (q ≡ p → ⊥) → row_at (slice_set rows p x) q ≡ row_at rows q
@@ -209,6 +224,31 @@ module _ (flow new : Flow) (site : Site) (i : Inlined flow site new) (sound : So
       by false q =
           let n : f ≡ site.function → ⊥ = λ j. false≢true (sym q ∙ eq-eqb f site.function j) in
           subst (KnowsBehind g) (sym (other_row live site.function f rows n)) (k f g (sym (other_graph f n) ∙ e))
+
+  -- ---- places of arrays that are no globals
+
+  pub bare_kept : (bare : List Bool) → is_bare i.call.parts.caller.arrays i.call.parts.callee.blocks ≡ true → KnowsBare flow bare → KnowsBare new bare
+  bare_kept bare more k f g e t = by (new_from f g e)
+    where
+      by : (slice_get flow.functions f ≡ Some g) ⊎ ((f ≡ site.function) × (g ≡ after)) → is_bare g.arrays g.blocks ≡ true
+      by (inl h) = k f g h t
+      by (inr h) =
+          let own : is_bare i.call.parts.caller.arrays i.call.parts.caller.blocks ≡ true = k f i.call.parts.caller (ap (slice_get flow.functions) h.0 ∙ i.call.is_caller) t in
+          subst (λ (z : Graph). is_bare z.arrays z.blocks ≡ true) (sym h.1) (bare_inlined i.call.parts site.block i.free i.call.is_block own more)
+
+  pub bare_anew : (bare : List Bool) (is : Bool) (graph : Graph) → slice_get new.functions site.function ≡ Some graph → is ≡ is_bare graph.arrays graph.blocks → KnowsBare flow bare → KnowsBare new (slice_set bare site.function is)
+  bare_anew bare is graph here q k f g e t = by (f == site.function) refl
+    where
+      by : (u : Bool) → (f == site.function) ≡ u → is_bare g.arrays g.blocks ≡ true
+      by true z =
+          let same : f ≡ site.function = eqb-true f site.function z in
+          let both : Option.Some graph ≡ Some g = sym here ∙ ap (slice_get new.functions) (sym same) ∙ e in
+          let one : graph ≡ g = cc in
+          let told : is ≡ true = marked_there bare site.function is (sym (ap (is_marked (slice_set bare site.function is)) same) ∙ t) in
+          subst (λ (x : Graph). is_bare x.arrays x.blocks ≡ true) one (sym q ∙ told)
+      by false z =
+          let n : f ≡ site.function → ⊥ = λ j. false≢true (sym z ∙ eq-eqb f site.function j) in
+          k f g (sym (other_graph f n) ∙ e) (sym (marked_other bare site.function f is n) ∙ t)
 
   -- ---- cycles of calls
 
@@ -275,16 +315,18 @@ module _ (flow new : Flow) (site : Site) (i : Inlined flow site new) (sound : So
   knows_kept known s k =
       let n : length new.functions ≡ length flow.functions = functions_stay in
       let w : KeepsKnown i.call.parts = s i.call in
-      record { apart = apart_kept known.apart.items k.apart; live = live_kept known.live.items w.passes w.stay k.live; count = k.count ∙ sym n }
+      record { apart = apart_kept known.apart.items k.apart; live = live_kept known.live.items w.passes w.stay k.live; bare = bare_kept known.bare.items w.bare k.bare; count = k.count ∙ sym n }
 
-  pub knows_anew : (known next : Known) (rows : List (List ℕ)) (graph : Graph) → slice_get new.functions site.function ≡ Some graph → KnowsBehind graph rows → next.apart ≡ known.apart → next.live.items ≡ slice_set known.live.items site.function rows → Knows flow known → Knows new next
-  knows_anew known next rows graph e b a l k =
+  pub knows_anew : (known next : Known) (rows : List (List ℕ)) (is : Bool) (graph : Graph) → slice_get new.functions site.function ≡ Some graph → KnowsBehind graph rows → is ≡ is_bare graph.arrays graph.blocks → next.apart ≡ known.apart →
+      next.live.items ≡ slice_set known.live.items site.function rows → next.bare.items ≡ slice_set known.bare.items site.function is → Knows flow known → Knows new next
+  knows_anew known next rows is graph e b q a l h k =
       let n : length new.functions ≡ length flow.functions = functions_stay in
       let c : length known.live.items ≡ length flow.functions = k.count in
       let low : site.function < length new.functions = slice_get_within new.functions site.function graph e in
       record {
         apart = subst (λ x. KnowsApart new x.items) (sym a) (apart_kept known.apart.items k.apart);
         live = subst (KnowsLive new) (sym l) (live_anew known.live.items rows graph (omega (arith, low, n, c)) e b k.live);
+        bare = subst (KnowsBare new) (sym h) (bare_anew known.bare.items is graph e q k.bare);
         count = ap length l ∙ set_length known.live.items site.function rows ∙ c ∙ sym n;
       }
 
@@ -404,12 +446,22 @@ drop_past (x ∷ xs) (suc i) l = drop_past xs i (omega (arith, l))
 pub live_done : (graphs : List Graph) (live : List (List (List ℕ))) (i : ℕ) → LiveFor graphs live (drop i graphs) → length graphs ≤ i → LiveFor graphs live []
 live_done graphs live i k l = subst (LiveFor graphs live) (drop_past graphs i l) k
 
-pub knows_first : (flow : Flow) (known : Known) (graphs : List Graph) → graphs ≡ flow.functions → KnowsApart flow known.apart.items → LiveFor graphs known.live.items [] → Knows flow known
-knows_first flow known graphs e a k =
+bare_first : (graphs : List Graph) (f : ℕ) (g : Graph) → slice_get graphs f ≡ Some g → is_marked (map (λ (x : Graph). is_bare x.arrays x.blocks) graphs) f ≡ true → is_bare g.arrays g.blocks ≡ true
+bare_first [] f g e t = absurd (cc)
+bare_first (x ∷ xs) zero g e t = let q : x ≡ g = cc in sym (ap (λ (z : Graph). is_bare z.arrays z.blocks) q) ∙ t
+bare_first (x ∷ xs) (suc f) g e t = bare_first xs f g e t
+
+pub knows_first : (flow : Flow) (known : Known) (graphs : List Graph) → graphs ≡ flow.functions → KnowsApart flow known.apart.items → LiveFor graphs known.live.items [] → known.bare.items ≡ map (λ (g : Graph). is_bare g.arrays g.blocks) graphs → Knows flow known
+knows_first flow known graphs e a k b =
     let n : length graphs ≤ length known.live.items = drop_none graphs (length known.live.items) k.rest in
     let m : length known.live.items ≤ length graphs = k.few in
     let c : length known.live.items ≡ length graphs = omega (arith, n, m) in
-    record { apart = a; live = λ f g h. known_at f g (sym (ap (λ z. slice_get z f) (sym e)) ∙ h); count = c ∙ ap length e }
+    record {
+      apart = a;
+      live = λ f g h. known_at f g (sym (ap (λ z. slice_get z f) (sym e)) ∙ h);
+      bare = λ f g h t. bare_first graphs f g (ap (λ z. slice_get z f) e ∙ h) (sym (ap (λ z. is_marked z f) b) ∙ t);
+      count = c ∙ ap length e;
+    }
   where
     known_at : (f : ℕ) (g : Graph) → slice_get graphs f ≡ Some g → KnowsBehind g (row_at known.live.items f)
     known_at f g h =
@@ -433,6 +485,15 @@ site_known flow site known rows k r c v =
     let q : row_at known.live.items site.function ≡ rows = row_there known.live.items site.function rows r in
     ((λ t. w.0 (ap (λ z. lives z c.parts.next v) q ∙ t)), (λ l. sym (ap (λ z. lives z c.parts.next v) q) ∙ w.1 l))
 
-pub anew_known : (new : Flow) (known next : Known) (f : ℕ) (rows : List (List ℕ)) (graph : Graph) → slice_get new.functions f ≡ Some graph → KnowsBehind graph rows → next.apart ≡ known.apart → next.live.items ≡ slice_set known.live.items f rows → NextKnown new f known next
-anew_known new known next f rows graph e b a l = λ flow site i sound same k.
-    knows_anew flow new site i sound known next rows graph (ap (slice_get new.functions) same ∙ e) b a (l ∙ ap (λ z. slice_set known.live.items z rows) (sym same)) k
+pub anew_known : (new : Flow) (known next : Known) (f : ℕ) (rows : List (List ℕ)) (is : Bool) (graph : Graph) → slice_get new.functions f ≡ Some graph → KnowsBehind graph rows → is ≡ is_bare graph.arrays graph.blocks → next.apart ≡ known.apart →
+    next.live.items ≡ slice_set known.live.items f rows → next.bare.items ≡ slice_set known.bare.items f is → NextKnown new f known next
+anew_known new known next f rows is graph e b q a l h = λ flow site i sound same k.
+    knows_anew flow new site i sound known next rows is graph (ap (slice_get new.functions) same ∙ e) b q a (l ∙ ap (λ z. slice_set known.live.items z rows) (sym same)) (h ∙ ap (λ z. slice_set known.bare.items z is) (sym same)) k
+
+-- ---- whether the caller of a site is bare
+
+pub site_bare : (flow : Flow) (site : Site) (known : Known) (bare : Bool) → Knows flow known → bare ≡ is_marked known.bare.items site.function → IsSiteBare flow site bare
+site_bare flow site known bare k e t c = k.bare site.function c.parts.caller c.is_caller (sym e ∙ t)
+
+pub call_bare : (flow : Flow) (site : Site) (c : TheCall) (bare : Bool) → call_in flow site ≡ Some c → IsSiteBare flow site bare → bare ≡ true → is_bare c.caller.arrays c.caller.blocks ≡ true
+call_bare flow site c bare e h t = let w : CallFound flow site c = call_found flow site c e in subst (λ (x : TheCall). is_bare x.caller.arrays x.caller.blocks ≡ true) w.is (h t w.call)

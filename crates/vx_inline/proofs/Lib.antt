@@ -33,5 +33,6 @@ pub mod KnownStays
 pub mod PassingSteps
 pub mod Stepping
 pub mod Joints
+pub mod BareBlocks
 pub mod Calling
 pub mod Likely

@@ -12,7 +12,7 @@ use Rattle.vx_inline.specs.CallPlaces.{ListsCalls}
 use Rattle.vx_inline.specs.Choosing.{IsCandidate, Below, BestOfBlocks, BestOfFunction, BestOfTwo, Chosen, ComesBefore, NoneFirst, NoneIsWorthIt, exceeds, site_of}
 use Rattle.vx_inline.specs.Keeping.{Knows}
 use Rattle.vx_inline.proofs.Calling.{none_listed, site_listed}
-use Rattle.vx_inline.proofs.Candidates.{apart_candidate}
+use Rattle.vx_inline.proofs.Candidates.{apart_candidate, worth_less}
 use Rattle.vx_inline.proofs.Firsts.{before_both, comes, stays_first}
 
 module _ (flow : Flow) (counts : Counts) (most : ℕ) where
@@ -44,6 +44,9 @@ module _ (flow : Flow) (counts : Counts) (most : ℕ) where
 
   pub first_stays : (best : Option Site) (site : Site) → NoneIsWorthIt flow counts most best site → BestOfTwo flow counts most site best best
   first_stays best site n = record { own = n; rest = λ s h. h }
+
+  pub first_passed : (best : Option Site) (site : Site) → exceeds counts best site ≡ false → BestOfTwo flow counts most site best best
+  first_passed best site e = first_stays best site (worth_less flow counts most best site e)
 
   pub first_taken : (best : Option Site) (site : Site) → exceeds counts best site ≡ true → BestOfTwo flow counts most site best (Some site)
   first_taken best site e = record { own = λ k x. before_not site (comes flow counts most site site x); rest = λ s h k x. h k (exceeds_on best site s e x) }

@@ -16,6 +16,7 @@ use Rattle.vx_inline.specs.declared.known.Known.{Known}
 use Rattle.vx_inline.specs.declared.site.Site.{Site}
 use Rattle.vx_inline.specs.Inlined.{TheCall, CallAt, Inlined, is_plain}
 use Rattle.vx_inline.specs.Permitting.{StandsApart}
+use Rattle.vx_inline.specs.Values.{is_bare}
 
 -- some path from block b comes to a return
 pub data Returns (g : Graph) : ℕ → Type 0 where
@@ -49,10 +50,19 @@ pub record LiveFor (graphs : List Graph) (live : List (List (List ℕ))) (todo :
 abbrev pub KnowsApart : Flow → (apart : List Bool) → Type 0
 KnowsApart flow apart = (f : ℕ) → f < length flow.functions → (is_marked apart f ≡ true) ↔ StandsApart flow f
 
+-- a function that is marked makes no place of an array that is no global, and no base
+abbrev pub KnowsBare : Flow → (bare : List Bool) → Type 0
+KnowsBare flow bare = (f : ℕ) (g : Graph) → slice_get flow.functions f ≡ Some g → is_marked bare f ≡ true → is_bare g.arrays g.blocks ≡ true
+
+-- the caller of a site makes none, if this is said of it
+abbrev pub IsSiteBare : Flow → Site → (bare : Bool) → Type 0
+IsSiteBare flow site bare = bare ≡ true → (c : CallAt flow site) → is_bare c.parts.caller.arrays c.parts.caller.blocks ≡ true
+
 -- all that is known
 pub record Knows (flow : Flow) (known : Known) : Type 0 where
   pub apart : KnowsApart flow known.apart.items
   pub live : KnowsLive flow known.live.items
+  pub bare : KnowsBare flow known.bare.items
   pub count : length known.live.items ≡ length flow.functions
 
 -- ---- calls behind which the blocks keep their numbers
@@ -94,6 +104,7 @@ pub record LeadHere (g : Graph) (marks : List Bool) : Type 0 where
 pub record KeepsKnown (c : TheCall) : Type 0 where
   pub passes : Passes c.callee
   pub stay : calls_stay c.caller.blocks ≡ true
+  pub bare : is_bare c.caller.arrays c.callee.blocks ≡ true
 
 abbrev pub KeepsSite : Flow → Site → Type 0
 KeepsSite flow site = (c : CallAt flow site) → KeepsKnown c.parts

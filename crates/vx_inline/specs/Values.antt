@@ -1,6 +1,6 @@
 -- Which values of the caller are free where a call is, as lists that are found.
-use Rattle.std.specs.Prelude.{◌&&◌, ℕ, Bool, true, not, if◌then◌else◌, List, [], ◌∷◌, ◌++◌, length, nat_le, slice_get, slice_set, take}
-use Rattle.std.specs.List.{flat_map, filter}
+use Rattle.std.specs.Prelude.{◌&&◌, ℕ, Bool, true, false, not, if◌then◌else◌, List, [], ◌∷◌, ◌++◌, length, nat_le, slice_get, slice_set, take}
+use Rattle.std.specs.List.{flat_map, filter, list_all}
 use Rattle.vx_flow.specs.declared.graph.Array.{Array}
 use Rattle.vx_flow.specs.declared.graph.Bank.{Bank}
 use Rattle.vx_flow.specs.declared.graph.Bank.TheVariants.{General, Branch}
@@ -45,6 +45,25 @@ local_place arrays (PlaceIn v a u i) = v ∷ []
 
 abbrev pub local_places : List Array → Block → List ℕ
 local_places arrays block = flat_map (local_place arrays) block.ops
+
+-- an operation writes no place of an array that is no global, and no base
+abbrev pub makes_none : List Array → Op → Bool
+makes_none arrays (Compute code v a b) = true
+makes_none arrays (Select v p a b) = true
+makes_none arrays (Place v a i) = not (is_local arrays a)
+makes_none arrays (Load v a p dismissible) = true
+makes_none arrays (Store a p x) = true
+makes_none arrays (More v) = true
+makes_none arrays (Input v) = true
+makes_none arrays (Text n) = true
+makes_none arrays (Decimal x) = true
+makes_none arrays (Across v u) = true
+makes_none arrays (Base v a x) = false
+makes_none arrays (PlaceIn v a u i) = false
+
+-- no operation of blocks writes one
+abbrev pub is_bare : List Array → List Block → Bool
+is_bare arrays blocks = list_all (λ (block : Block). list_all (makes_none arrays) block.ops) blocks
 
 -- the bases of arrays that were handed over
 abbrev pub given_bases : List Array → List ℕ

@@ -152,7 +152,8 @@ fn has_room_by(
     requires live { slice_get asked.now.known.now.live.items site.now.function ≡ Some live.now }
     ensures { IfOk result (λ has. IsTrue has ↔ HasEnough (seen found.now)) }
 {
-    has_values(alloc, live, found)
+    let bare = is_marked(asked.known.bare.as_slice(), site.function);
+    has_values(alloc, live, found, bare)
 }
 
 /// The site that comes first by what costs little.
@@ -222,11 +223,23 @@ fn likely_of(asked: &Asked, function: u32, calls: &[BlockId], best: Option<Site>
     likely
 }
 
-#[tactic(auto, using(crate::proofs::Likely::first_stays, crate::proofs::Likely::first_taken))]
+#[tactic(auto, using(crate::proofs::Likely::first_passed))]
 fn likely_at(asked: &Asked, site: Site, best: Option<Site>) -> Option<Site>
     ensures { BestOfTwo asked.now.flow.now asked.now.counts.now asked.now.most site best result }
 {
-    match worth_it(asked, &site, best) {
+    if exceeds(asked, &site, best) {
+        likely_there(asked, site, best)
+    } else {
+        best
+    }
+}
+
+#[tactic(auto, using(crate::proofs::Likely::first_stays, crate::proofs::Likely::first_taken))]
+fn likely_there(asked: &Asked, site: Site, best: Option<Site>) -> Option<Site>
+    requires { exceeds asked.now.counts.now best site ≡ true }
+    ensures { BestOfTwo asked.now.flow.now asked.now.counts.now asked.now.most site best result }
+{
+    match worth_there(asked, &site, best) {
         Some(_) => Some(site),
         None => best,
     }
@@ -286,30 +299,43 @@ fn has_worthy(asked: &Asked, function: u32, blocks: u32, best: Option<Site>) -> 
 }
 
 /// The call of a site, where it is permitted as far as its values and other functions allow it, its callee has few operations, and
-/// it comes before the best.
-#[tactic(auto, using(crate::proofs::Candidates::worth_none))]
+/// it comes before the best. Counts cost least, so they are asked first.
+#[tactic(auto, using(crate::proofs::Candidates::worth_less))]
 fn worth_it<'a>(asked: &Asked<'a>, site: &Site, best: Option<Site>) -> Option<FoundCall<'a>>
     ensures { IsWorthIt asked.now.flow.now asked.now.counts.now asked.now.most best site.now (option_map seen result) }
 {
+    if exceeds(asked, site, best) {
+        worth_there(asked, site, best)
+    } else {
+        None
+    }
+}
+
+#[tactic(auto, using(crate::proofs::Candidates::worth_none))]
+fn worth_there<'a>(asked: &Asked<'a>, site: &Site, best: Option<Site>) -> Option<FoundCall<'a>>
+    requires { exceeds asked.now.counts.now best site.now ≡ true }
+    ensures { IsWorthIt asked.now.flow.now asked.now.counts.now asked.now.most best site.now (option_map seen result) }
+{
+    let _best = best;
     match find(asked.flow, site) {
         Some(found) => worth_of(asked, site, best, found),
         None => None,
     }
 }
 
-#[tactic(auto, using(crate::proofs::Candidates::worth_found, crate::proofs::Candidates::worth_less))]
+#[tactic(auto, using(crate::proofs::Candidates::worth_found))]
 fn worth_of<'a>(
     asked: &Asked<'a>,
     site: &Site,
     best: Option<Site>,
     found: FoundCall<'a>,
 ) -> Option<FoundCall<'a>>
-    requires { call_in asked.now.flow.now site.now ≡ Some (seen found) }
+    requires found { call_in asked.now.flow.now site.now ≡ Some (seen found) }
+    requires exceeds { exceeds asked.now.counts.now best site.now ≡ true }
     ensures { IsWorthIt asked.now.flow.now asked.now.counts.now asked.now.most best site.now (option_map seen result) }
 {
-    if !exceeds(asked, site, best) {
-        return None;
-    }
+    let _site = site;
+    let _best = best;
     if fits(&found) && has_few(found.callee.blocks.as_slice(), asked.most) {
         Some(found)
     } else {

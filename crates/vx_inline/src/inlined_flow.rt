@@ -18,6 +18,7 @@ use crate::choice::{Asked, chosen};
 use crate::found_call::find;
 use crate::inlining::with_live;
 use crate::known::{Known, known_next, known_of};
+use crate::marks::is_marked;
 use crate::passing::keeps_known;
 use crate::site::Site;
 use std::alloc::Global;
@@ -152,6 +153,6 @@ fn flow_by(
     requires live { slice_get known.now.live.items site.function ≡ Some live.now }
     ensures inlined { IfOk result (λ new. Inlined flow site new) }
 {
-    let _known = known;
-    with_live(alloc, flow, site, live)
+    let bare = is_marked(known.bare.as_slice(), site.function);
+    with_live(alloc, flow, site, live, bare)
 }

@@ -10,9 +10,9 @@ ghost use Rattle.vx_lower.specs.FlowOf.{FlowOf};
 ghost use Rattle.vx_inline.specs.Finding.{seen};
 ghost use Rattle.vx_flow.specs.declared.graph.Bank.{Bank};
 ghost use Rattle.vx_inline.specs.Inlined.{AreFree, Inlined, Permitted, named, taken};
-ghost use Rattle.vx_inline.specs.Keeping.{KnowsSite};
+ghost use Rattle.vx_inline.specs.Keeping.{IsSiteBare, KnowsSite};
 ghost use Rattle.vx_inline.specs.Splicing.{AreWithJoint, IsJoint, IsJointAt, IsWithJoint, joined_graph};
-ghost use Rattle.vx_inline.specs.Values.{of_bank};
+ghost use Rattle.vx_inline.specs.Values.{is_bare, of_bank};
 
 use crate::by_bank::{ByBank, named};
 use crate::caller_blocks::with_joint;
@@ -47,7 +47,7 @@ fn with_call(alloc: Global, flow: Flow, site: Site) -> Result<Flow, NoMemory>
     ensures { IfOk result (λ new. Inlined flow site new) }
 {
     let live = live_in(alloc, &flow, &site)?;
-    with_live(alloc, flow, site, &live)
+    with_live(alloc, flow, site, &live, false)
 }
 
 /// What is live at the blocks of the caller.
@@ -67,33 +67,43 @@ pub(crate) fn with_live(
     flow: Flow,
     site: Site,
     live: &Live,
+    bare: bool,
 ) -> Result<Flow, NoMemory>
     requires permitted { Permitted flow site }
     requires live { KnowsSite flow site live.now }
+    requires bare { IsSiteBare flow site bare }
     ensures inlined { IfOk result (λ new. Inlined flow site new) }
 {
-    let joint = joint_at(alloc, &flow, &site, live)?;
+    let joint = joint_at(alloc, &flow, &site, live, bare)?;
     with_joint_at(alloc, flow, site, joint)
 }
 
 /// What comes into the caller.
-fn joint_at(alloc: Global, flow: &Flow, site: &Site, live: &Live) -> Result<Joint, NoMemory>
-    requires { KnowsSite flow.now site.now live.now }
+fn joint_at(
+    alloc: Global,
+    flow: &Flow,
+    site: &Site,
+    live: &Live,
+    bare: bool,
+) -> Result<Joint, NoMemory>
+    requires live { KnowsSite flow.now site.now live.now }
+    requires bare { IsSiteBare flow.now site.now bare }
     ensures { IfOk result (λ joint. IsJointAt flow.now site.now joint) }
 {
     match find(flow, site) {
-        Some(found) => joint_for(alloc, &found, live),
+        Some(found) => joint_for(alloc, &found, live, bare),
         None => Err(NoMemory),
     }
 }
 
 #[tactic(auto, using(crate::proofs::Joints::any_free))]
-fn joint_for(alloc: Global, found: &FoundCall, live: &Live) -> Result<Joint, NoMemory>
-    requires { (v : ℕ) → IsTrue (lives live.now found.now.next v) ↔ IsLive found.now.caller.now found.now.next v }
+fn joint_for(alloc: Global, found: &FoundCall, live: &Live, bare: bool) -> Result<Joint, NoMemory>
+    requires bare { bare ≡ true → is_bare found.now.caller.now.arrays found.now.caller.now.blocks ≡ true }
+    requires behind { (v : ℕ) → IsTrue (lives live.now found.now.next v) ↔ IsLive found.now.caller.now found.now.next v }
     ensures { IfOk result (λ joint. (free : Bank → List ℕ) → ((bank : Bank) → AreFree (seen found.now) bank (free bank)) → IsJoint (seen found.now) (taken found.now.callee.now free) joint) }
 {
     let named = named(alloc, found.callee)?;
-    let free = free_values(alloc, live, found, &named)?;
+    let free = free_values(alloc, live, found, &named, bare)?;
     joint_taking(alloc, found, &named, &free)
 }
 

@@ -1,13 +1,16 @@
 // What is known of a flow while its calls are inlined, so that no step looks again for what it does not change.
 
-ghost use Rattle.std.specs.Prelude.{◌≡◌, ◌↔◌, ◌<◌, ◌+◌, ℕ, true, [], IfOk, IsTrue, Some, drop, get_or, length, slice_get, slice_set};
+ghost use Rattle.std.specs.Prelude.{◌≡◌, ◌↔◌, ◌<◌, ◌+◌, ◌++◌, ◌∷◌, ℕ, true, [], IfOk, IsTrue, Some, drop, get_or, length, map, slice_get, slice_set};
 ghost use Rattle.vx_flow.specs.declared.graph.Flow.{Flow};
+ghost use Rattle.vx_flow.specs.declared.graph.Graph.{Graph};
 ghost use Rattle.vx_flow.specs.Rows.{lives};
 ghost use Rattle.vx_flow.specs.Sound.{SoundFlow};
 ghost use Rattle.vx_inline.specs.Inlined.{Inlined, Reaches};
 ghost use Rattle.vx_inline.specs.Keeping.{KeepsSite, Knows, KnowsApart, KnowsBehind, LiveFor, NextKnown};
+ghost use Rattle.vx_inline.specs.Values.{is_bare};
 ghost use Rattle.vx_inline.specs.declared.site.Site.{Site};
 
+use crate::bare::is_bare;
 use crate::called::reached;
 use crate::fitting::calls_nothing;
 use crate::permission::stands_by;
@@ -25,6 +28,8 @@ pub struct Known {
     pub apart: Vec<bool>,
     /// The values that are live at the blocks to which its calls return; other rows tell nothing.
     pub live: Vec<Live>,
+    /// Whether the function surely makes no place of an array that is no global, and no base.
+    pub bare: Vec<bool>,
 }
 
 /// What is known of a flow, looked for from nothing.
@@ -33,7 +38,25 @@ pub(crate) fn known_of(alloc: Global, flow: &Flow) -> Result<Known, NoMemory>
 {
     let apart = apart_of(alloc, flow)?;
     let live = live_of(alloc, flow.functions.as_slice())?;
-    Ok(Known { apart, live })
+    let bare = bare_of(alloc, flow.functions.as_slice())?;
+    Ok(Known { apart, live, bare })
+}
+
+/// Which functions make no place of an array that is no global, and no base.
+fn bare_of(alloc: Global, functions: &[Graph]) -> Result<Vec<bool>, NoMemory>
+    ensures { IfOk result (λ bare. bare.items ≡ map (λ (g : Graph). is_bare g.arrays g.blocks) functions.now) }
+{
+    let mut bare = Vec::new(alloc);
+    for graph in functions {
+        bare.push(is_bare_in(graph))?;
+    }
+    Ok(bare)
+}
+
+fn is_bare_in(graph: &Graph) -> bool
+    ensures { result ≡ is_bare graph.now.arrays graph.now.blocks }
+{
+    is_bare(graph.arrays.as_slice(), graph.blocks.as_slice())
 }
 
 /// Which functions are on no cycle of calls and reached by none on one.
@@ -137,20 +160,29 @@ fn anew_for(
     ensures { IfOk result (λ next. NextKnown new.now function known next) }
 {
     let live = live_behind(alloc, graph)?;
-    Ok(with_live(known, function, live))
+    Ok(with_live(known, function, live, is_bare_in(graph)))
 }
 
-/// With what is live behind the calls of one function.
-fn with_live(known: Known, function: u32, live: Live) -> Known
+/// With what is live behind the calls of one function, and whether it is bare.
+fn with_live(known: Known, function: u32, live: Live, bare: bool) -> Known
     ensures apart { result.apart ≡ known.apart }
     ensures live { result.live.items ≡ slice_set known.live.items function live }
+    ensures bare { result.bare.items ≡ slice_set known.bare.items function bare }
 {
     let Known {
         apart,
         live: mut lives,
+        bare: mut bares,
     } = known;
     if (function as usize) < lives.len() {
         lives[function as usize] = live;
     }
-    Known { apart, live: lives }
+    if (function as usize) < bares.len() {
+        bares[function as usize] = bare;
+    }
+    Known {
+        apart,
+        live: lives,
+        bare: bares,
+    }
 }

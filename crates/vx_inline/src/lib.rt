@@ -3,6 +3,7 @@
 // that do nothing; `permitted` tests whether a call may be inlined.
 #![tactic(auto)]
 
+mod bare;
 pub mod by_bank;
 mod call_lists;
 mod called;

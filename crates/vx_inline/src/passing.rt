@@ -1,5 +1,6 @@
 // Whether what is live behind the calls of a caller stays as it is with a call inlined: the callee reads at its entry no value but
-// its parameters, it may return, and the blocks behind the calls of the caller keep their numbers.
+// its parameters, it may return, and the blocks behind the calls of the caller keep their numbers. So it stays without places of arrays
+// that are no globals, if the callee makes none.
 
 ghost use Rattle.std.specs.Prelude.{◌≡◌, ◌<◌, ℕ, true, IfOk, get_or, length};
 ghost use Rattle.std.specs.List.{list_all};
@@ -11,6 +12,7 @@ ghost use Rattle.vx_inline.specs.Inlined.{is_among};
 ghost use Rattle.vx_inline.specs.Keeping.{KeepsKnown, LeadHere, Passes, Returns, calls_below, calls_stay, front_of, is_return, returns_below};
 ghost use Rattle.vx_inline.specs.Values.{marked_all};
 
+use crate::bare::is_bare;
 use crate::found_call::FoundCall;
 use crate::marks::{is_marked_at, mark, unmarked};
 use crate::places::is_plain;
@@ -27,6 +29,10 @@ const ROUNDS: u32 = 64;
 pub(crate) fn keeps_known(alloc: Global, found: &FoundCall) -> Result<bool, NoMemory>
     ensures { IfOk result (λ keeps. keeps ≡ true → KeepsKnown (seen found.now)) }
 {
+    let arrays = found.caller.arrays.as_slice();
+    if !is_bare(arrays, found.callee.blocks.as_slice()) {
+        return Ok(false);
+    }
     if calls_stay(found.caller.blocks.as_slice())? {
         passes(alloc, found.callee)
     } else {

@@ -92,5 +92,5 @@ pub(crate) fn has_enough(alloc: Global, found: &FoundCall) -> Result<bool, NoMem
     ensures { IfOk result (λ has. IsTrue has ↔ HasEnough (seen found.now)) }
 {
     let live = live(alloc, found.caller)?;
-    has_values(alloc, &live, found)
+    has_values(alloc, &live, found, false)
 }

@@ -10,7 +10,7 @@ returns-else-fits c =
     let asked = c.args.asked.now in
     let flow = asked.flow.now in
     let found = seen c.args.found in
-    let is : call_in flow c.args.site.now ≡ Some found = c.requires in
+    let is : call_in flow c.args.site.now ≡ Some found = c.requires.found in
     elim c.else-fits.branch [
       | else-fits-via-then-fits+else-has_few w ↦
           worth_many flow asked.counts.now asked.most c.args.best c.args.site.now found is (sym (w.has_few.ensures ∙ ap (has_few asked.most) w.as_slice.ensures) ∙ w.if-has_few.false)

@@ -4,4 +4,4 @@ use Rattle.vx_inline.proofs.Joints.{any_free}
 use Rattle.vx_inline.proofs.inlining.joint_for.Goals as goal
 
 pub returns : goal.returns
-returns c = IfOk-weaker c.joint_taking.result _ _ (λ joint j. any_free c.args.live.now (seen c.args.found.now) c.in_ok-named.named c.in_ok-free.free joint c.requires c.in_ok-named.ensures c.in_ok-free.ensures j) c.joint_taking.ensures
+returns c = IfOk-weaker c.joint_taking.result _ _ (λ joint j. any_free c.args.live.now (seen c.args.found.now) c.in_ok-named.named c.in_ok-free.free joint c.requires.behind c.in_ok-named.ensures c.in_ok-free.ensures j) c.joint_taking.ensures
