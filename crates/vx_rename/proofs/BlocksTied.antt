@@ -1,5 +1,5 @@
 -- A block under names leaves the new state as the old block leaves the old one.
-use Rattle.std.proofs.Common.{◌≡◌, inl, ℕ, zero, suc, ◌+◌, true, List, [], ◌∷◌, ◌++◌, map, drop, slice_get, Option, Some, None, refl, sym, ap, ◌∙◌, subst, arith}
+use Rattle.std.proofs.Common.{◌≡◌, inl, ℕ, zero, suc, ◌+◌, Bool, true, false, cond, List, [], ◌∷◌, ◌++◌, map, drop, slice_get, Option, Some, None, refl, sym, ap, ◌∙◌, subst, arith}
 use Rattle.std.proofs.lemmas.Bool.{and_parts}
 use Rattle.std.specs.List.{flat_map}
 use Rattle.std.specs.Prelude.{◌&&◌}
@@ -13,9 +13,9 @@ use Rattle.vx_flow.specs.Operands.{written_by, with_value_in}
 use Rattle.vx_flow.specs.Meaning.{Hop, known, leave, and_then, block_hop, hop_of, with_result}
 use Rattle.vx_flow.specs.Agree.{SameWorld}
 use Rattle.vx_rename.specs.declared.names.BlockNames.{BlockNames}
-use Rattle.vx_rename.specs.Renaming.{Standing, put_if, starting, renamed_op, renamed_one, renamed_result, renamed_exit, first_name, behind_op, behind, op_if, renamed_ops, ending, leaving, renamed_block, renamed_blocks, all_stand, op_stands, ops_stand, carries, exit_stands, block_stands, blocks_stand}
+use Rattle.vx_rename.specs.Renaming.{Standing, place_if, put_if, starting, source_of, is_there, renamed_op, renamed_one, renamed_result, renamed_exit, first_name, behind_op, behind, op_if, renamed_ops, ending, leaving, renamed_block, renamed_blocks, all_stand, op_stands, ops_stand, carries, exit_stands, block_stands, blocks_stand}
 use Rattle.vx_rename.proofs.Standings.{Tied, tied_result, AllAt, carried, start_tied}
-use Rattle.vx_rename.proofs.OpsTied.{knows, seen_refined, known_seen, Done, op_tied, left_tied}
+use Rattle.vx_rename.proofs.OpsTied.{knows, seen_refined, known_seen, Done, op_tied, left_tied, move_tied}
 use Rattle.vx_rename.proofs.RunsTied.{Agreeing, Alikes, wrong, arrives, stopped, test_alike, calls_alike, leaves_alike}
 
 module _ (at : ℕ → BlockNames) where
@@ -62,9 +62,17 @@ module _ (at : ℕ → BlockNames) where
   one_tied n None setting b op ops new exit made h s t same tied rest =
       then_left (effect setting s op s) (block_hop setting b ops exit) (block_hop setting b new made t)
       (λ s' e. (let k = left_tied n setting op s t s' h same tied e in rest s' t k.0 k.1))
-  one_tied n (Some w) setting b op ops new exit made h s t same tied rest =
-      then_tied (put_if n (written_by op) w) (effect setting s op s) (effect setting t (renamed_op n.name w op) t) (block_hop setting b ops exit) (block_hop setting b new made)
-      (λ s' e. op_tied n w setting op s t s' same tied (knows n (reads op) s t tied h) e) rest
+  one_tied n (Some w) setting b op ops new exit made h s t same tied rest = by (is_there n w (source_of op)) refl rest
+    where
+      by : (there : Bool) → is_there n w (source_of op) ≡ there →
+          ((s' t' : State) → SameWorld s' t' → Tied (cond there (place_if n (written_by op) w) (put_if n (written_by op) w)) s'.values t'.values → Alikes Stands (block_hop setting b ops exit s') (block_hop setting b new made t')) →
+          Alikes Stands (block_hop setting b (op ∷ ops) exit s) (block_hop setting b (op_if (cond there None (Some (renamed_op n.name w op))) ++ new) made t)
+      by true q on =
+          then_left (effect setting s op s) (block_hop setting b ops exit) (block_hop setting b new made t)
+          (λ s' e. (let k = move_tied n w setting op s t s' q same tied e in on s' t k.0 k.1))
+      by false q on =
+          then_tied (put_if n (written_by op) w) (effect setting s op s) (effect setting t (renamed_op n.name w op) t) (block_hop setting b ops exit) (block_hop setting b new made)
+          (λ s' e. op_tied n w setting op s t s' same tied (knows n (reads op) s t tied h) e) on
 
   ops_tied : (n : Standing) (ws : List (Option ℕ)) (w : ℕ) (setting : Setting) (b : ℕ) (ops : List Op) (exit : Exit) → ops_stand n ws ops ≡ true → exit_stands at (behind n ws ops) w exit ≡ true → (s t : State) → SameWorld s t → Tied n s.values t.values →
       Alikes Stands (block_hop setting b ops exit s) (block_hop setting b (renamed_ops n ws ops) (renamed_exit (behind n ws ops).name w exit) t)

@@ -1,7 +1,7 @@
 -- Small graphs under other names: a loop of three blocks whose two temporaries share a name, operations that are left out, a value
--- with two names, and what the test refuses.
+-- with two names, moves within one name, and what the test refuses.
 use Rattle.std.proofs.Common.{◌≡◌, ℕ, pos, true, false, Option, Some, None, List, [], ◌∷◌, map, refl}
-use Rattle.vx_base.specs.declared.arithmetic.Code.TheVariants.{Add, ToBranch, Sh2add}
+use Rattle.vx_base.specs.declared.arithmetic.Code.TheVariants.{Add, Mov, ToBranch, Sh2add}
 use Rattle.vx_base.specs.declared.arithmetic.Compare.TheVariants.{Lt}
 use Rattle.vx_flow.specs.declared.graph.Bank.TheVariants.{General, Branch}
 use Rattle.vx_flow.specs.declared.graph.Operand.TheVariants.{Held, Number}
@@ -192,3 +192,44 @@ pub value_has_moved : renamed two_names anew ≡ record {
   arrays = [];
 }
 value_has_moved = refl
+
+-- ---- moves
+
+-- 1 is made of 0 and moved there, and both are read behind
+abbrev moving : List Op → Graph
+moving ops = record {
+  blocks = block (Compute Add 1 (Held 0) (Number (pos 1)) ∷ Compute Mov 0 (Held 1) (Number (pos 0)) ∷ ops) (Return (Held 0)) ∷ [];
+  banks = General ∷ General ∷ [];
+  parameters = 0 ∷ [];
+  arrays = [];
+}
+
+abbrev under : List ℕ → GraphNames
+under written = record { blocks = names (name 0 0 ∷ []) written ∷ []; banks = General ∷ General ∷ []; parameters = 0 ∷ [] }
+
+pub both_stand_there : is_renaming (under (0 ∷ 0 ∷ 0 ∷ [])) (moving (Decimal (Held 1) ∷ [])) ≡ true
+both_stand_there = refl
+
+pub move_is_not_made : renamed (under (0 ∷ 0 ∷ 0 ∷ [])) (moving (Decimal (Held 1) ∷ [])) ≡ record {
+  blocks = block (Compute Add 0 (Held 0) (Number (pos 1)) ∷ Decimal (Held 0) ∷ []) (Return (Held 0)) ∷ [];
+  banks = General ∷ General ∷ [];
+  parameters = 0 ∷ [];
+  arrays = [];
+}
+move_is_not_made = refl
+
+-- between two names it is made
+pub move_is_made : renamed (under (1 ∷ 0 ∷ 0 ∷ [])) (moving (Decimal (Held 1) ∷ [])) ≡ record {
+  blocks = block (Compute Add 1 (Held 0) (Number (pos 1)) ∷ Compute Mov 0 (Held 1) (Number (pos 0)) ∷ Decimal (Held 1) ∷ []) (Return (Held 0)) ∷ [];
+  banks = General ∷ General ∷ [];
+  parameters = 0 ∷ [];
+  arrays = [];
+}
+move_is_made = refl
+
+-- where one of the two is written, the other does not stand any more
+pub other_is_displaced : is_renaming (under (0 ∷ 0 ∷ 0 ∷ [])) (moving (Compute Add 1 (Held 1) (Number (pos 1)) ∷ [])) ≡ false
+other_is_displaced = refl
+
+pub other_stands_elsewhere : is_renaming (under (0 ∷ 0 ∷ 1 ∷ [])) (moving (Compute Add 1 (Held 1) (Number (pos 1)) ∷ [])) ≡ true
+other_stands_elsewhere = refl

@@ -1,11 +1,12 @@
 -- Steps of the making of a graph under names.
-use Rattle.std.proofs.Common.{◌≡◌, ◌<◌, ◌≤◌, arith, ℕ, zero, suc, ◌==◌, Bool, true, false, cond, List, [], ◌∷◌, ◌++◌, ◌+◌, length, drop, take, length-take-le, get_or, count_by, slice_index_or, Option, Some, None, refl, sym, ap, ◌∙◌, subst, append_assoc, append-nil, map}
+use Rattle.std.proofs.Common.{◌≡◌, ◌<◌, ◌≤◌, ◌⊎◌, arith, eq-eqb, inl, inr, replicate, slice_set, ℕ, zero, suc, ◌==◌, Bool, true, false, cond, List, [], ◌∷◌, ◌++◌, ◌+◌, length, drop, take, length-take-le, get_or, count_by, slice_index_or, Option, Some, None, refl, sym, ap, ◌∙◌, subst, append_assoc, append-nil, map}
 use Rattle.std.proofs.Math.Path.{fun_ext}
 use Rattle.std.proofs.lemmas.Result.{IfOk-weaker}
 use Rattle.std.specs.Prelude.{IfOk, IfSome, Result}
-use Rattle.std.proofs.lemmas.List.{drop_more, drop_all}
+use Rattle.std.proofs.lemmas.Bool.{eqb-true}
+use Rattle.std.proofs.lemmas.List.{drop_more, drop_all, get_or-set_same, get_or-set_other}
 use Rattle.std.proofs.lemmas.List.Sums.{count_by-le-length}
-use Rattle.std.specs.Prelude.{◌&&◌}
+use Rattle.std.specs.Prelude.{◌&&◌, not}
 use Rattle.std.specs.List.{list_all, flat_map}
 use Rattle.std.specs.Cmp.Derive.{both_true}
 use Rattle.vx_flow.specs.declared.graph.Op.{Op}
@@ -15,22 +16,21 @@ use Rattle.vx_flow.specs.declared.graph.Graph.{Graph}
 use Rattle.vx_flow.specs.declared.graph.Operand.{Operand}
 use Rattle.vx_flow.specs.declared.operands.Reads.{Reads}
 use Rattle.vx_flow.specs.Effects.{reads, value_in}
-use Rattle.vx_flow.specs.Operands.{read_by, values_read}
+use Rattle.vx_flow.specs.Operands.{read_by, values_read, written_by}
 use Rattle.vx_flow.specs.Live.{reads_of_exit}
 use Rattle.vx_flow.specs.Sound.{targets_of}
 use Rattle.vx_flow.proofs.OperandLaws.{reads_listed}
-use Rattle.vx_flow.proofs.Copying.{grown}
 use Rattle.vx_rename.specs.declared.names.Name.{Name}
 use Rattle.vx_rename.specs.declared.names.BlockNames.{BlockNames}
 use Rattle.vx_rename.specs.declared.names.GraphNames.{GraphNames}
-use Rattle.vx_rename.specs.Renaming.{Standing, stands, nowhere, no_name, put, put_if, forget, put_all, starting, result_of, renamed_one, renamed_exit, first_name, behind_op, behind, op_if, renamed_ops, ending, leaving, renamed_block, all_stand, op_stands, ops_stand, carries, exit_stands, renamed_blocks, blocks_stand, names_at, parameter_name, renamed_array, has_counts, entry_stands, GraphRenames}
-use Rattle.vx_rename.specs.Making.{name_in, standing, OpMade, OpsMade, ExitLeads, ExitMade, BlockMade, BlocksMade}
+use Rattle.vx_rename.specs.Renaming.{Standing, nowhere, no_name, place, place_if, clear, put_if, forget, place_all, starting, renamed_op, source_of, is_there, result_of, renamed_one, renamed_exit, first_name, behind_op, behind, op_if, renamed_ops, ending, leaving, renamed_block, all_stand, op_stands, ops_stand, carries, exit_stands, renamed_blocks, blocks_stand, names_at, parameter_name, renamed_array, has_counts, entry_stands, GraphRenames}
+use Rattle.vx_rename.specs.Making.{name_in, Numbered, AreNumbers, are_one, standing, OpMade, OpsMade, ExitLeads, ExitMade, BlockMade, BlocksMade}
 
 -- ---- what is read
 
 pub stand_both : (n : Standing) (xs ys : List ℕ) → all_stand n (xs ++ ys) ≡ (all_stand n xs && all_stand n ys)
 stand_both n [] ys = refl
-stand_both n (x ∷ xs) ys = by (stands n x) (stand_both n xs ys)
+stand_both n (x ∷ xs) ys = by (n.stands x) (stand_both n xs ys)
   where
     by : (b : Bool) → all_stand n (xs ++ ys) ≡ (all_stand n xs && all_stand n ys) → (b && all_stand n (xs ++ ys)) ≡ ((b && all_stand n xs) && all_stand n ys)
     by true e = e
@@ -43,10 +43,179 @@ pub stand_all : (n : Standing) (xs : List Operand) → all_stand n (flat_map val
 stand_all n [] = refl
 stand_all n (x ∷ xs) = stand_both n (value_in x) (flat_map value_in xs) ∙ ap (λ b. all_stand n (value_in x) && b) (stand_all n xs)
 
--- ---- what stands no longer
+-- ---- the rows
 
-pub forget_none : (n : Standing) (v : ℕ) → stands n v ≡ false → n ≡ forget n v
-forget_none n v e = ap (λ b. record { name = n.name; holder = λ x. cond (b && (x == n.name v)) None (n.holder x) }) (sym e)
+row_put : (row : List ℕ) (i j x : ℕ) → i < length row → name_in (slice_set row i x) j ≡ cond (j == i) x (name_in row j)
+row_put row i j x h = by (j == i) refl
+  where
+    by : (b : Bool) → (j == i) ≡ b → name_in (slice_set row i x) j ≡ cond b x (name_in row j)
+    by true e = ap (name_in (slice_set row i x)) (eqb-true j i e) ∙ get_or-set_same row i x 0 h
+    by false e = get_or-set_other row i j x 0 (λ q. let f : (j == i) ≡ true = eq-eqb j i q in absurd cc)
+
+-- what is no greater than the last number is not the next one
+is_older : (h last : ℕ) → h ≤ last → (h == last + 1) ≡ false
+is_older h last k = by (h == last + 1) refl
+  where
+    by : (b : Bool) → (h == last + 1) ≡ b → b ≡ false
+    by true e = let q : h ≡ last + 1 = eqb-true h (last + 1) e in absurd (omega (arith, k, q))
+    by false e = refl
+
+both_false : (a b : Bool) → b ≡ false → (a && b) ≡ false
+both_false true b e = e
+both_false false b e = refl
+
+not_next : (h last : ℕ) → h ≤ last → are_one h (last + 1) ≡ false
+not_next h last k = both_false (not (h == 0)) (h == last + 1) (is_older h last k)
+
+not_none : (h : ℕ) → are_one h 0 ≡ false
+not_none h = by (h == 0)
+  where
+    by : (b : Bool) → (not b && b) ≡ false
+    by true = refl
+    by false = refl
+
+are_same : (g : ℕ) → (g == 0) ≡ false → are_one g g ≡ true
+are_same g e = ap (λ b. not b && (g == g)) e ∙ eq-eqb g g refl
+
+pub placed_by : (names had given : List ℕ) (last v w : ℕ) → v < length names → v < length had → (name_in given w == 0) ≡ false →
+    standing (record { names = slice_set names v w; had = slice_set had v (name_in given w); given = given; last = last }) ≡ place (standing (record { names = names; had = had; given = given; last = last })) v w
+placed_by names had given last v w h k e = λ i. record { name = fun_ext (λ u. row_put names v u w h) i; stands = fun_ext there i }
+  where
+    by : (u : ℕ) (b : Bool) → are_one (cond b (name_in given w) (name_in had u)) (name_in given (cond b w (name_in names u))) ≡ cond b true (are_one (name_in had u) (name_in given (name_in names u)))
+    by u true = are_same (name_in given w) e
+    by u false = refl
+
+    there : (u : ℕ) → are_one (name_in (slice_set had v (name_in given w)) u) (name_in given (name_in (slice_set names v w) u)) ≡ cond (u == v) true (are_one (name_in had u) (name_in given (name_in names u)))
+    there u =
+        ap (λ x. are_one x (name_in given (name_in (slice_set names v w) u))) (row_put had v u (name_in given w) k)
+        ∙ ap (λ x. are_one (cond (u == v) (name_in given w) (name_in had u)) (name_in given x)) (row_put names v u w h) ∙ by u (u == v)
+
+is_some : (g : ℕ) → (g ≡ 0 → ⊥) → (g == 0) ≡ false
+is_some g f = by (g == 0) refl
+  where
+    by : (b : Bool) → (g == 0) ≡ b → b ≡ false
+    by true e = absurd (f (eqb-true g 0 e))
+    by false e = refl
+
+pub placed : (old : Numbered) (names had given row : List ℕ) (last v w number : ℕ) → record { names = names; had = had; given = given; last = last } ≡ old → v < length names → v < length had → number ≡ name_in row w → row ≡ given → (number ≡ 0 → ⊥) →
+    standing (record { names = slice_set names v w; had = slice_set had v number; given = given; last = last }) ≡ place (standing old) v w
+placed old names had given row last v w number view h k e r some =
+    let is : number ≡ name_in given w = e ∙ ap (λ l. name_in l w) r in
+    ap (λ g. standing (record { names = slice_set names v w; had = slice_set had v g; given = given; last = last })) is
+    ∙ placed_by names had given last v w h k (is_some (name_in given w) (λ z. some (is ∙ z))) ∙ ap (λ r. place (standing r) v w) view
+
+pub renewed_by : (names had given : List ℕ) (last w : ℕ) → AreNumbers had given last → w < length given →
+    standing (record { names = names; had = had; given = slice_set given w (last + 1); last = last + 1 }) ≡ clear (standing (record { names = names; had = had; given = given; last = last })) w
+renewed_by names had given last w a h = λ i. record { name = name_in names; stands = fun_ext there i }
+  where
+    by : (u : ℕ) (b : Bool) → are_one (name_in had u) (cond b (last + 1) (name_in given (name_in names u))) ≡ cond b false (are_one (name_in had u) (name_in given (name_in names u)))
+    by u true = not_next (name_in had u) last (a.of_values u)
+    by u false = refl
+
+    there : (u : ℕ) → are_one (name_in had u) (name_in (slice_set given w (last + 1)) (name_in names u)) ≡ cond (name_in names u == w) false (are_one (name_in had u) (name_in given (name_in names u)))
+    there u = ap (are_one (name_in had u)) (row_put given w (name_in names u) (last + 1) h) ∙ by u (name_in names u == w)
+
+pub forgotten_by : (names had given : List ℕ) (last v : ℕ) → v < length had →
+    standing (record { names = names; had = slice_set had v 0; given = given; last = last }) ≡ forget (standing (record { names = names; had = had; given = given; last = last })) v
+forgotten_by names had given last v h = λ i. record { name = name_in names; stands = fun_ext there i }
+  where
+    by : (u : ℕ) (b : Bool) → are_one (cond b 0 (name_in had u)) (name_in given (name_in names u)) ≡ cond b false (are_one (name_in had u) (name_in given (name_in names u)))
+    by u true = refl
+    by u false = refl
+
+    there : (u : ℕ) → are_one (name_in (slice_set had v 0) u) (name_in given (name_in names u)) ≡ cond (u == v) false (are_one (name_in had u) (name_in given (name_in names u)))
+    there u = ap (λ x. are_one x (name_in given (name_in names u))) (row_put had v u 0 h) ∙ by u (u == v)
+
+past_end : (row : List ℕ) (v : ℕ) → length row ≤ v → name_in row v ≡ 0
+past_end [] v h = refl
+past_end (x ∷ row) zero h = absurd (omega (arith, h))
+past_end (x ∷ row) (suc v) h = past_end row v (omega (arith, h))
+
+-- a value that has no place in the rows stands nowhere
+pub nothing_forgotten : (names had given : List ℕ) (last v : ℕ) → length had ≤ v →
+    standing (record { names = names; had = had; given = given; last = last }) ≡ forget (standing (record { names = names; had = had; given = given; last = last })) v
+nothing_forgotten names had given last v h = λ i. record { name = name_in names; stands = fun_ext there i }
+  where
+    by : (u : ℕ) (b : Bool) → (u == v) ≡ b → are_one (name_in had u) (name_in given (name_in names u)) ≡ cond b false (are_one (name_in had u) (name_in given (name_in names u)))
+    by u true e = ap (λ x. are_one x (name_in given (name_in names u))) (ap (name_in had) (eqb-true u v e) ∙ past_end had v h)
+    by u false e = refl
+
+    there : (u : ℕ) → are_one (name_in had u) (name_in given (name_in names u)) ≡ cond (u == v) false (are_one (name_in had u) (name_in given (name_in names u)))
+    there u = by u (u == v) refl
+
+repeated : (count x k : ℕ) → (name_in (replicate count x) k ≡ x) ⊎ (name_in (replicate count x) k ≡ 0)
+repeated zero x k = inr refl
+repeated (suc count) x zero = inl refl
+repeated (suc count) x (suc k) = repeated count x k
+
+pub cleared_by : (names had given : List ℕ) (last count : ℕ) → AreNumbers had given last →
+    standing (record { names = names; had = had; given = replicate count (last + 1); last = last + 1 }) ≡ nowhere (name_in names)
+cleared_by names had given last count a = λ i. record { name = name_in names; stands = fun_ext there i }
+  where
+    by : (u g : ℕ) → (g ≡ last + 1) ⊎ (g ≡ 0) → are_one (name_in had u) g ≡ false
+    by u g (inl e) = ap (are_one (name_in had u)) e ∙ not_next (name_in had u) last (a.of_values u)
+    by u g (inr e) = ap (are_one (name_in had u)) e ∙ not_none (name_in had u)
+
+    there : (u : ℕ) → are_one (name_in had u) (name_in (replicate count (last + 1)) (name_in names u)) ≡ false
+    there u = by u (name_in (replicate count (last + 1)) (name_in names u)) (repeated count (last + 1) (name_in names u))
+
+-- ---- no number is greater than the last one
+
+pub zeros : (count v : ℕ) → name_in (replicate count 0) v ≡ 0
+zeros zero v = refl
+zeros (suc count) zero = refl
+zeros (suc count) (suc v) = zeros count v
+
+no_greater : (row : List ℕ) (i x last : ℕ) → i < length row → x ≤ last → ((v : ℕ) → name_in row v ≤ last) → (v : ℕ) → name_in (slice_set row i x) v ≤ last
+no_greater row i x last h k a v = subst (λ y. y ≤ last) (sym (row_put row i v x h)) (by (v == i))
+  where
+    by : (b : Bool) → cond b x (name_in row v) ≤ last
+    by true = k
+    by false = a v
+
+pub numbers_first : (count : ℕ) → AreNumbers (replicate count 0) [] 0
+numbers_first count = record {
+  of_values = λ v. (let e : name_in (replicate count 0) v ≡ 0 = zeros count v in omega (arith, e));
+  of_names = λ w. (let g : 0 ≤ 0 = omega arith in g);
+}
+
+pub numbers_placed : (had given : List ℕ) (last v w : ℕ) → v < length had → AreNumbers had given last → AreNumbers (slice_set had v (name_in given w)) given last
+numbers_placed had given last v w h a = record { of_values = no_greater had v (name_in given w) last h (a.of_names w) a.of_values; of_names = a.of_names }
+
+pub numbers_renewed : (had given : List ℕ) (last w : ℕ) → w < length given → AreNumbers had given last → AreNumbers had (slice_set given w (last + 1)) (last + 1)
+numbers_renewed had given last w h a = record {
+  of_values = λ v. (let k = a.of_values v in omega (arith, k));
+  of_names = no_greater given w (last + 1) (last + 1) h (omega arith) (λ v. (let k = a.of_names v in omega (arith, k)));
+}
+
+pub numbers_forgotten : (had given : List ℕ) (last v : ℕ) → v < length had → AreNumbers had given last → AreNumbers (slice_set had v 0) given last
+numbers_forgotten had given last v h a = record { of_values = no_greater had v 0 last h (omega arith) a.of_values; of_names = a.of_names }
+
+pub numbers_cleared : (had given : List ℕ) (last count : ℕ) → AreNumbers had given last → AreNumbers had (replicate count (last + 1)) (last + 1)
+numbers_cleared had given last count a = record {
+  of_values = λ v. (let k = a.of_values v in omega (arith, k));
+  of_names = λ w. by (name_in (replicate count (last + 1)) w) (repeated count (last + 1) w);
+}
+  where
+    by : (g : ℕ) → (g ≡ last + 1) ⊎ (g ≡ 0) → g ≤ last + 1
+    by g (inl e) = omega (arith, e)
+    by g (inr e) = omega (arith, e)
+
+-- ---- a move, and other operations
+
+pub stays_by : (n after : Standing) (w : ℕ) (op : Op) → all_stand n (reads op) ≡ true → is_there n w (source_of op) ≡ true → after ≡ place_if n (written_by op) w → OpMade n (Some w) op None after
+stays_by n after w op stand there e = record {
+  stand = stand;
+  is = sym (ap (λ b. cond b None (Some (renamed_op n.name w op))) there);
+  later = e ∙ sym (ap (λ b. cond b (place_if n (written_by op) w) (put_if n (written_by op) w)) there);
+}
+
+pub named_by : (n after : Standing) (w : ℕ) (op made : Op) → all_stand n (reads op) ≡ true → is_there n w (source_of op) ≡ false → made ≡ renamed_op n.name w op → after ≡ put_if n (written_by op) w → OpMade n (Some w) op (Some made) after
+named_by n after w op made stand apart m e = record {
+  stand = stand;
+  is = ap Option.Some m ∙ sym (ap (λ b. cond b None (Some (renamed_op n.name w op))) apart);
+  later = e ∙ sym (ap (λ b. cond b (place_if n (written_by op) w) (put_if n (written_by op) w)) apart);
+}
 
 -- ---- one operation after the other
 
@@ -103,27 +272,13 @@ underway_last first ws ops i made now past u =
       later = ap (λ l. behind now (drop i ws) l) (sym none) ∙ u.later;
     }
 
--- ---- rows without names
-
-pub zeros_more : (row new : List ℕ) → ((v : ℕ) → slice_index_or row v 0 ≡ 0) → new ≡ row ++ 0 ∷ [] → (v : ℕ) → slice_index_or new v 0 ≡ 0
-zeros_more row new h e v = ap (λ l. slice_index_or l v 0) e ∙ grown row 0 v ∙ h v
-
-pub nones_more : (row new : List (Option ℕ)) → ((w : ℕ) → slice_index_or row w None ≡ None) → new ≡ row ++ None ∷ [] → (w : ℕ) → slice_index_or new w None ≡ None
-nones_more row new h e w = ap (λ l. slice_index_or l w None) e ∙ grown row None w ∙ h w
-
-pub standing_nowhere : (names : List ℕ) (holders : List (Option ℕ)) → ((w : ℕ) → slice_index_or holders w None ≡ None) → standing names holders ≡ nowhere (name_in names)
-standing_nowhere names holders b = λ i. record { name = name_in names; holder = fun_ext b i }
-
 -- ---- what stands at the start
 
-pub put_next : (first : Standing) (start : List Name) (i : ℕ) (now after : Standing) (d : Name) → i < length start → put_all now (drop i start) ≡ put_all first start → after ≡ put now (get_or start i d).old (get_or start i d).new → put_all after (drop (i + 1) start) ≡ put_all first start
-put_next first start i now after d there so put = ap (λ n. put_all n (drop (i + 1) start)) put ∙ ap (put_all now) (sym (drop_more start i d there)) ∙ so
+pub place_next : (first : Standing) (start : List Name) (i : ℕ) (now after : Standing) (d : Name) → i < length start → place_all now (drop i start) ≡ place_all first start → after ≡ place now (get_or start i d).old (get_or start i d).new → place_all after (drop (i + 1) start) ≡ place_all first start
+place_next first start i now after d there so put = ap (λ n. place_all n (drop (i + 1) start)) put ∙ ap (place_all now) (sym (drop_more start i d there)) ∙ so
 
-pub put_last : (first : Standing) (start : List Name) (i : ℕ) (now : Standing) → length start ≤ i → put_all now (drop i start) ≡ put_all first start → now ≡ put_all first start
-put_last first start i now past so = ap (put_all now) (sym (drop_all i start past)) ∙ so
-
-pub starting_by : (names : List ℕ) (holders : List (Option ℕ)) (after : Standing) (at : BlockNames) → ((w : ℕ) → slice_index_or holders w None ≡ None) → after ≡ put_all (standing names holders) at.start → after ≡ starting (name_in names) at
-starting_by names holders after at b e = e ∙ ap (λ n. put_all n at.start) (standing_nowhere names holders b)
+pub place_last : (first : Standing) (start : List Name) (i : ℕ) (now : Standing) → length start ≤ i → place_all now (drop i start) ≡ place_all first start → now ≡ place_all first start
+place_last first start i now past so = ap (place_all now) (sym (drop_all i start past)) ∙ so
 
 -- ---- exits and blocks
 

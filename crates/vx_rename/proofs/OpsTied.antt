@@ -1,6 +1,6 @@
 -- An operation under names does in the new state what the old one does in the old state.
-use Rattle.std.proofs.Common.{◌≡◌, inl, inr, ℕ, ℤ, pos, ◌==◌, Bool, true, false, cond, List, [], ◌∷◌, ◌++◌, length, map, slice_set, slice_index_or, Option, Some, None, refl, sym, ap, subst, ◌∙◌}
-use Rattle.std.proofs.lemmas.Bool.{false≢true}
+use Rattle.std.proofs.Common.{◌≡◌, inl, inr, ℕ, ℤ, pos, ◌==◌, Bool, true, false, cond, List, [], ◌∷◌, ◌++◌, length, map, slice_set, slice_index_or, Option, Some, None, refl, sym, ap, subst, ◌∙◌, eq-eqb}
+use Rattle.std.proofs.lemmas.Bool.{and_parts, false≢true, eqb-true}
 use Rattle.std.specs.List.{flat_map}
 use Rattle.std.specs.Fmt.{signed_decimal}
 use Rattle.vx_base.specs.Arithmetic.{value_of, one_if}
@@ -9,21 +9,21 @@ use Rattle.vx_flow.specs.declared.graph.Operand.TheVariants.{Held, Number, Stack
 use Rattle.vx_flow.specs.declared.graph.Op.{Op}
 use Rattle.vx_flow.specs.declared.graph.Op.TheVariants.{Compute, Select, Place, Load, Store, More, Input, Text, Decimal, Across, Base, PlaceIn}
 use Rattle.vx_flow.specs.Effects.{Content, State, Setting, held, is_unary, both, computed, is_one, chosen, place_of, place_by, row_of, cell_in, cell_of, is_left, text_at, with_value, with_cell, loaded, stored, next_input, printed, effect, value_in, reads}
-use Rattle.vx_flow.specs.Operands.{written_by, with_value_in}
+use Rattle.vx_flow.specs.Operands.{held_by, written_by, with_value_in}
 use Rattle.vx_flow.specs.Meaning.{known}
 use Rattle.vx_flow.specs.Agree.{SameWorld}
 use Rattle.vx_flow.proofs.Members.{in_left, in_right}
 use Rattle.vx_flow.proofs.EffectsAlike.{Refined, Knows, knows_left, knows_right, held_refined, known_refined, place_by_refined}
 use Rattle.vx_flow.proofs.SoundLists.{all_in}
-use Rattle.vx_rename.specs.Renaming.{Standing, stands, put, put_if, forget, forget_if, renamed_op, all_stand, writes_alone}
-use Rattle.vx_rename.proofs.Standings.{Tied, tied_written, tied_forgotten}
+use Rattle.vx_rename.specs.Renaming.{Standing, place, place_if, put, put_if, forget, forget_if, renamed_op, source_of, is_there, all_stand, writes_alone}
+use Rattle.vx_rename.proofs.Standings.{Tied, tied_place, tied_written, tied_forgotten, written_there, elsewhere_read}
 
 -- the new state, its values under the old names
 abbrev pub seen : (ℕ → ℕ) → State → State
 seen name t = record t { values = λ v. t.values (name v) }
 
 pub knows : (n : Standing) (vs : List ℕ) (s t : State) → Tied n s.values t.values → all_stand n vs ≡ true → Knows vs s (seen n.name t)
-knows n vs s t tied h v m = tied v (all_in (stands n) vs v h m)
+knows n vs s t tied h v m = tied v (all_in n.stands vs v h m)
 
 -- an operand under names holds in the new state what it holds in that one
 pub held_seen : (name : ℕ → ℕ) (t : State) (x : Operand) → held t (with_value_in name x) ≡ held (seen name t) x
@@ -194,3 +194,33 @@ left_tied n setting (Decimal x) s t s' w same tied e = absurd (false≢true w)
 left_tied n setting (Across v u) s t s' w same tied e = value_left n s t s' v (s.values u) same tied e
 left_tied n setting (Base v a x) s t s' w same tied e = value_left n s t s' v (Some (pos (setting.spot a))) same tied e
 left_tied n setting (PlaceIn v a u i) s t s' w same tied e = value_left n s t s' v (place_by (s.values u) (held s i)) same tied e
+
+-- ---- a move of what stands at the name already
+
+value_stays : (n : Standing) (s t s' : State) (v u w : ℕ) → SameWorld s t → Tied n s.values t.values → n.stands u ≡ true → n.name u ≡ w → Some (with_value s v (s.values u)) ≡ Some s' → Left (place n v w) s' t
+value_stays n s t s' v u w same tied stands at e =
+    let x : Content = s.values u in
+    let world : SameWorld (with_value s v x) t = record { arrays = same.arrays; input = same.input; out = same.out } in
+    let there : Refined ((with_value s v x).values v) (t.values w) = λ m q. subst (λ z. t.values z ≡ Some m) at (tied u stands m (written_there v u x (s.values v) (v == v) (eq-eqb v v refl) m q)) in
+    subst (λ q. Left (place n v w) q t) (some_is (with_value s v x) s' e) (world, tied_place n v w s.values t.values (with_value s v x).values tied there (λ z q. elsewhere_read x (s.values z) (z == v) q))
+
+computed_stays : (unary : Bool) (f : ℤ → ℤ → ℤ) (n : Standing) (s t s' : State) (v w : ℕ) (a b : Operand) → SameWorld s t → Tied n s.values t.values → is_there n w (cond unary (held_by a) None) ≡ true →
+    Some (with_value s v (cond unary (held s a) (both f (held s a) (held s b)))) ≡ Some s' → Left (place n v w) s' t
+computed_stays true f n s t s' v w (Held u) b same tied h e = let k = and_parts (n.stands u) (n.name u == w) h in value_stays n s t s' v u w same tied k.0 (eqb-true (n.name u) w k.1) e
+computed_stays true f n s t s' v w (Number m) b same tied h e = absurd (false≢true h)
+computed_stays true f n s t s' v w Stack b same tied h e = absurd (false≢true h)
+computed_stays false f n s t s' v w a b same tied h e = absurd (false≢true h)
+
+pub move_tied : (n : Standing) (w : ℕ) (setting : Setting) (op : Op) (s t s' : State) → is_there n w (source_of op) ≡ true → SameWorld s t → Tied n s.values t.values → effect setting s op s ≡ Some s' → Left (place_if n (written_by op) w) s' t
+move_tied n w setting (Compute code v a b) s t s' h same tied e = computed_stays (is_unary code) (value_of code) n s t s' v w a b same tied h e
+move_tied n w setting (Select v p a b) s t s' h same tied e = absurd (false≢true h)
+move_tied n w setting (Place v a i) s t s' h same tied e = absurd (false≢true h)
+move_tied n w setting (Load v a p dismissible) s t s' h same tied e = absurd (false≢true h)
+move_tied n w setting (Store a p x) s t s' h same tied e = absurd (false≢true h)
+move_tied n w setting (More v) s t s' h same tied e = absurd (false≢true h)
+move_tied n w setting (Input v) s t s' h same tied e = absurd (false≢true h)
+move_tied n w setting (Text m) s t s' h same tied e = absurd (false≢true h)
+move_tied n w setting (Decimal x) s t s' h same tied e = absurd (false≢true h)
+move_tied n w setting (Across v u) s t s' h same tied e = absurd (false≢true h)
+move_tied n w setting (Base v a x) s t s' h same tied e = absurd (false≢true h)
+move_tied n w setting (PlaceIn v a u i) s t s' h same tied e = absurd (false≢true h)

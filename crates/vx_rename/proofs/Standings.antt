@@ -1,5 +1,5 @@
 -- What standing says of two states: a number in the old one is the same number at its name in the new one.
-use Rattle.std.proofs.Common.{◌≡◌, ℕ, ◌==◌, Bool, true, false, cond, ℤ, List, [], ◌∷◌, Option, Some, None, refl, sym, ap, ◌∙◌, subst, eq-eqb}
+use Rattle.std.proofs.Common.{◌≡◌, ℕ, ◌==◌, Bool, true, false, cond, ℤ, List, [], ◌∷◌, Option, Some, None, refl, sym, ◌∙◌, subst, eq-eqb}
 use Rattle.std.proofs.lemmas.Bool.{and_parts, false≢true, eqb-true}
 use Rattle.std.specs.Prelude.{◌&&◌, not}
 use Rattle.std.specs.List.{list_all}
@@ -8,27 +8,38 @@ use Rattle.vx_flow.specs.Meaning.{at_entry, with_result}
 use Rattle.vx_flow.proofs.EffectsAlike.{Refined}
 use Rattle.vx_rename.specs.declared.names.Name.{Name}
 use Rattle.vx_rename.specs.declared.names.BlockNames.{BlockNames}
-use Rattle.vx_rename.specs.Renaming.{Standing, is_held, stands, nowhere, put, put_if, forget, put_all, starting, renamed_result, carries, enters_at}
+use Rattle.vx_rename.specs.Renaming.{Standing, nowhere, place, clear, put, put_if, forget, place_all, starting, renamed_result, carries, enters_at}
 
 abbrev pub Tied : Standing → (ℕ → Content) → (ℕ → Content) → Type 0
-Tied n x y = (v : ℕ) → stands n v ≡ true → Refined (x v) (y (n.name v))
+Tied n x y = (v : ℕ) → n.stands v ≡ true → Refined (x v) (y (n.name v))
 
 pub refined_itself : (x : Content) → Refined x x
 refined_itself x n e = e
 
+-- v stands at w too where it is refined there and no other old value changed
+pub tied_place : (n : Standing) (v w : ℕ) (x y x' : ℕ → Content) → Tied n x y → Refined (x' v) (y w) → ((u : ℕ) → (u == v) ≡ false → Refined (x' u) (x u)) → Tied (place n v w) x' y
+tied_place n v w x y x' tied there old u h = by (u == v) refl h
+  where
+    by : (a : Bool) → (u == v) ≡ a → cond a true (n.stands u) ≡ true → Refined (x' u) (y (cond a w (n.name u)))
+    by true q k = subst (λ z. Refined (x' z) (y w)) (sym (eqb-true u v q)) there
+    by false q k = λ m e. tied u k m (old u q m e)
+
+-- w alone changed
+tied_clear : (n : Standing) (w : ℕ) (x y y' : ℕ → Content) → Tied n x y → ((z : ℕ) → (z == w) ≡ false → Refined (y z) (y' z)) → Tied (clear n w) x y'
+tied_clear n w x y y' tied new u h = by (n.name u == w) refl h
+  where
+    by : (a : Bool) → (n.name u == w) ≡ a → cond a false (n.stands u) ≡ true → Refined (x u) (y' (n.name u))
+    by true q k = absurd (false≢true k)
+    by false q k = λ m e. new (n.name u) q m (tied u k m e)
+
 -- v stands at w where it is refined there and nothing else changed
 pub tied_put : (n : Standing) (v w : ℕ) (x y x' y' : ℕ → Content) → Tied n x y → Refined (x' v) (y' w) → ((u : ℕ) → (u == v) ≡ false → Refined (x' u) (x u)) → ((z : ℕ) → (z == w) ≡ false → Refined (y z) (y' z)) → Tied (put n v w) x' y'
-tied_put n v w x y x' y' tied there old new u h = by (u == v) refl (cond (u == v) w (n.name u) == w) refl h
-  where
-    by : (a : Bool) → (u == v) ≡ a → (c : Bool) → (cond a w (n.name u) == w) ≡ c → is_held u (cond c (Some v) (n.holder (cond a w (n.name u)))) ≡ true → Refined (x' u) (y' (cond a w (n.name u)))
-    by true q c r k = subst (λ z. Refined (x' z) (y' w)) (sym (eqb-true u v q)) there
-    by false q true r k = absurd (false≢true (sym q ∙ eq-eqb u v (sym (eqb-true v u k))))
-    by false q false r k = λ m e. new (n.name u) r m (tied u k m (old u q m e))
+tied_put n v w x y x' y' tied there old new = tied_place (clear n w) v w x y' x' (tied_clear n w x y y' tied new) there old
 
-pub tied_here : (n : Standing) (v w : ℕ) (x y : ℕ → Content) → Tied n x y → Refined (x v) (y w) → Tied (put n v w) x y
-tied_here n v w x y tied there = tied_put n v w x y x y tied there (λ u q m e. e) (λ z q m e. e)
+pub tied_here : (n : Standing) (v w : ℕ) (x y : ℕ → Content) → Tied n x y → Refined (x v) (y w) → Tied (place n v w) x y
+tied_here n v w x y tied there = tied_place n v w x y x tied there (λ u q m e. e)
 
-written_there : (v u : ℕ) (a b : Content) (same : Bool) → same ≡ true → Refined (cond same a b) a
+pub written_there : (v u : ℕ) (a b : Content) (same : Bool) → same ≡ true → Refined (cond same a b) a
 written_there v u a b true q m e = e
 written_there v u a b false q m e = absurd (false≢true q)
 
@@ -36,7 +47,7 @@ there_written : (a b : Content) (same : Bool) → same ≡ true → Refined a (c
 there_written a b true q m e = e
 there_written a b false q m e = absurd (false≢true q)
 
-elsewhere_read : (a b : Content) (same : Bool) → same ≡ false → Refined (cond same a b) b
+pub elsewhere_read : (a b : Content) (same : Bool) → same ≡ false → Refined (cond same a b) b
 elsewhere_read a b true q m e = absurd (false≢true (sym q))
 elsewhere_read a b false q m e = e
 
@@ -58,17 +69,11 @@ tied_result n (Some v) w x y k tied = tied_written n v w x y (Some k) (Some k) t
 
 -- v was written in the old state alone, and stands nowhere
 pub tied_forgotten : (n : Standing) (v : ℕ) (x y x' : ℕ → Content) → Tied n x y → ((u : ℕ) → (u == v) ≡ false → x' u ≡ x u) → Tied (forget n v) x' y
-tied_forgotten n v x y x' tied same u h = by (stands n v) refl (n.name u == n.name v) refl (u == v) refl h
+tied_forgotten n v x y x' tied same u h = by (u == v) refl h
   where
-    kept : is_held u (n.holder (n.name u)) ≡ true → (u == v) ≡ false → Refined (x' u) (y (n.name u))
-    kept k q = λ m e. tied u k m (sym (same u q) ∙ e)
-
-    by : (a : Bool) → stands n v ≡ a → (b : Bool) → (n.name u == n.name v) ≡ b → (c : Bool) → (u == v) ≡ c → is_held u (cond (a && b) None (n.holder (n.name u))) ≡ true → Refined (x' u) (y (n.name u))
-    by true p true q c r k = absurd (false≢true k)
-    by true p false q true r k = absurd (false≢true (sym q ∙ eq-eqb (n.name u) (n.name v) (ap n.name (eqb-true u v r))))
-    by true p false q false r k = kept k r
-    by false p b q true r k = absurd (false≢true (sym p ∙ subst (λ z. is_held z (n.holder (n.name z)) ≡ true) (eqb-true u v r) k))
-    by false p b q false r k = kept k r
+    by : (a : Bool) → (u == v) ≡ a → cond a false (n.stands u) ≡ true → Refined (x' u) (y (n.name u))
+    by true q k = absurd (false≢true k)
+    by false q k = λ m e. tied u k m (sym (same u q) ∙ e)
 
 -- ---- at the start of a block
 
@@ -81,15 +86,15 @@ pub carried : (n : Standing) (xs : List Name) (x y : ℕ → Content) → Tied n
 carried n [] x y tied h = tt
 carried n (p ∷ ps) x y tied h =
     let both = and_parts _ _ h in
-    let one = and_parts (stands n p.old) (n.name p.old == p.new) both.0 in
+    let one = and_parts (n.stands p.old) (n.name p.old == p.new) both.0 in
     (subst (λ w. Refined (x p.old) (y w)) (eqb-true (n.name p.old) p.new one.1) (tied p.old one.0), carried n ps x y tied both.1)
 
-put_all_tied : (n : Standing) (xs : List Name) (x y : ℕ → Content) → Tied n x y → AllAt xs x y → Tied (put_all n xs) x y
-put_all_tied n [] x y tied h = tied
-put_all_tied n (p ∷ ps) x y tied h = put_all_tied (put n p.old p.new) ps x y (tied_here n p.old p.new x y tied h.0) h.1
+place_all_tied : (n : Standing) (xs : List Name) (x y : ℕ → Content) → Tied n x y → AllAt xs x y → Tied (place_all n xs) x y
+place_all_tied n [] x y tied h = tied
+place_all_tied n (p ∷ ps) x y tied h = place_all_tied (place n p.old p.new) ps x y (tied_here n p.old p.new x y tied h.0) h.1
 
 pub start_tied : (n : ℕ → ℕ) (names : BlockNames) (x y : ℕ → Content) → AllAt names.start x y → Tied (starting n names) x y
-start_tied n names x y h = put_all_tied (nowhere n) names.start x y (λ v e. absurd (false≢true e)) h
+start_tied n names x y h = place_all_tied (nowhere n) names.start x y (λ v e. absurd (false≢true e)) h
 
 -- ---- at the entry
 

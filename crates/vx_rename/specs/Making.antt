@@ -1,5 +1,5 @@
--- How the graph under names is made and tested, step after step: where old values stand is kept in two rows.
-use Rattle.std.specs.Prelude.{◌≡◌, ℕ, true, List, Option, None, slice_index_or}
+-- How the graph under names is made and tested, step after step, and the rows in which it is kept where old values stand.
+use Rattle.std.specs.Prelude.{◌≡◌, ◌≤◌, ◌==◌, ◌&&◌, not, ℕ, Bool, true, List, Option, slice_index_or}
 use Rattle.vx_flow.specs.declared.graph.Op.{Op}
 use Rattle.vx_flow.specs.declared.graph.Exit.{Exit}
 use Rattle.vx_flow.specs.declared.graph.Block.{Block}
@@ -9,8 +9,25 @@ use Rattle.vx_rename.specs.Renaming.{Standing, no_name, put_if, result_of, renam
 abbrev pub name_in : List ℕ → ℕ → ℕ
 name_in names v = slice_index_or names v 0
 
-abbrev pub standing : List ℕ → List (Option ℕ) → Standing
-standing names holders = record { name = name_in names; holder = λ w. slice_index_or holders w None }
+-- The rows: the name of each old value, and, as all that names are given is numbered, the number of what each value has, 0 if it has
+-- nothing, and of what each name was given last; then the greatest number.
+pub record Numbered : Type 0 where
+  pub names : List ℕ
+  pub had : List ℕ
+  pub given : List ℕ
+  pub last : ℕ
+
+-- no number is greater
+pub record AreNumbers (had given : List ℕ) (last : ℕ) : Type 0 where
+  pub of_values : (v : ℕ) → name_in had v ≤ last
+  pub of_names : (w : ℕ) → name_in given w ≤ last
+
+-- what a value has is what its name was given last
+abbrev pub are_one : ℕ → ℕ → Bool
+are_one had given = not (had == 0) && (had == given)
+
+abbrev pub standing : Numbered → Standing
+standing r = record { name = name_in r.names; stands = λ v. are_one (name_in r.had v) (name_in r.given (name_in r.names v)) }
 
 -- one operation was tested, and made or left out
 pub record OpMade (before : Standing) (w : Option ℕ) (op : Op) (made : Option Op) (after : Standing) : Type 0 where

@@ -1,6 +1,6 @@
 -- A graph whose values have other names: how it is made of the old one and of the names, the test that each value is read where it
 -- stands, and the laws that the flow does what it did, stays a flow of its program and keeps its blocks. An operation that writes
--- what nothing reads may be left out.
+-- what nothing reads may be left out, and a move is where its source and its target share a name.
 use Rattle.std.specs.Prelude.{◌≡◌, ◌==◌, ◌+◌, ℕ, ℤ, Bool, true, false, ◌&&◌, not, nat_le, if◌then◌else◌, Option, Some, None, List, [], ◌∷◌, ◌++◌, length, map, drop, count_by, slice_index_or}
 use Rattle.std.specs.List.{list_all}
 use Rattle.vx_base.specs.Outcome.{NeverFails}
@@ -13,9 +13,9 @@ use Rattle.vx_flow.specs.declared.graph.Block.{Block}
 use Rattle.vx_flow.specs.declared.graph.Array.{Array}
 use Rattle.vx_flow.specs.declared.graph.Graph.{Graph}
 use Rattle.vx_flow.specs.declared.graph.Flow.{Flow}
-use Rattle.vx_flow.specs.Effects.{reads}
+use Rattle.vx_flow.specs.Effects.{is_unary, reads}
 use Rattle.vx_flow.specs.Live.{reads_of_exit}
-use Rattle.vx_flow.specs.Operands.{written_by, with_value_in}
+use Rattle.vx_flow.specs.Operands.{held_by, written_by, with_value_in}
 use Rattle.vx_flow.specs.Meaning.{graph_run}
 use Rattle.vx_flow.specs.Sound.{targets_of, is_sound_flow}
 use Rattle.vx_lower.specs.FlowOf.{is_general, is_branch}
@@ -26,29 +26,29 @@ use Rattle.vx_rename.specs.declared.names.GraphNames.{GraphNames}
 
 -- ---- where old values stand
 
--- The name of each old value, and the old value that each new one was given to last. A value stands at its name as long as the
--- name was given to no other.
+-- The name of each old value, and whether it stands there. Several may stand at one name, and then have one content.
 pub record Standing : Type 0 where
   pub name : ℕ → ℕ
-  pub holder : ℕ → Option ℕ
-
-abbrev pub is_held : ℕ → Option ℕ → Bool
-is_held v None = false
-is_held v (Some u) = u == v
-
-abbrev pub stands : Standing → ℕ → Bool
-stands n v = is_held v (n.holder (n.name v))
+  pub stands : ℕ → Bool
 
 -- nothing stands, whatever the names are
 abbrev pub nowhere : (ℕ → ℕ) → Standing
-nowhere name = record { name = name; holder = λ w. None }
+nowhere name = record { name = name; stands = λ v. false }
 
 abbrev pub no_name : ℕ → ℕ
 no_name v = 0
 
--- value v now stands at w: no longer where it stood, and no other stands at w
+-- value v now stands at w, beside what does, and no longer where it stood
+abbrev pub place : Standing → ℕ → ℕ → Standing
+place n v w = record { name = λ u. if u == v then w else n.name u; stands = λ u. if u == v then true else n.stands u }
+
+-- nothing stands at w
+abbrev pub clear : Standing → ℕ → Standing
+clear n w = record { name = n.name; stands = λ u. if n.name u == w then false else n.stands u }
+
+-- v now stands at w, and no other does
 abbrev pub put : Standing → ℕ → ℕ → Standing
-put n v w = record { name = λ u. if u == v then w else n.name u; holder = λ x. if x == w then Some v else n.holder x }
+put n v w = place (clear n w) v w
 
 abbrev pub put_if : Standing → Option ℕ → ℕ → Standing
 put_if n None w = n
@@ -56,19 +56,19 @@ put_if n (Some v) w = put n v w
 
 -- value v stands nowhere
 abbrev pub forget : Standing → ℕ → Standing
-forget n v = record { name = n.name; holder = λ x. if stands n v && (x == n.name v) then None else n.holder x }
+forget n v = record { name = n.name; stands = λ u. if u == v then false else n.stands u }
 
 abbrev pub forget_if : Standing → Option ℕ → Standing
 forget_if n None = n
 forget_if n (Some v) = forget n v
 
-abbrev pub put_all : Standing → List Name → Standing
-put_all n [] = n
-put_all n (x ∷ xs) = put_all (put n x.old x.new) xs
+abbrev pub place_all : Standing → List Name → Standing
+place_all n [] = n
+place_all n (x ∷ xs) = place_all (place n x.old x.new) xs
 
--- at the start of a block nothing stands but what is put there; names that were given before it are left, and mean nothing
+-- at the start of a block nothing stands but what is listed there; names that were given before it are left, and mean nothing
 abbrev pub starting : (ℕ → ℕ) → BlockNames → Standing
-starting name names = put_all (nowhere name) names.start
+starting name names = place_all (nowhere name) names.start
 
 -- ---- the new graph
 
@@ -108,14 +108,28 @@ renamed_exit name w (Ends k) = Ends k
 abbrev pub first_name : List (Option ℕ) → Option ℕ
 first_name ws = slice_index_or ws 0 None
 
--- an operation without a name is left out, and what it writes stands nowhere
+-- the value that a move reads
+abbrev pub source_of : Op → Option ℕ
+source_of (Compute code v a b) = if is_unary code then held_by a else None
+source_of op = None
+
+abbrev pub is_there : Standing → ℕ → Option ℕ → Bool
+is_there n w None = false
+is_there n w (Some u) = n.stands u && (n.name u == w)
+
+-- An operation without a name is left out, and what it writes stands nowhere. So is a move of what stands at the name already, and its
+-- target then stands there too.
 abbrev pub renamed_one : Standing → Option ℕ → Op → Option Op
 renamed_one n None op = None
-renamed_one n (Some w) op = Some (renamed_op n.name w op)
+renamed_one n (Some w) op = if is_there n w (source_of op) then None else Some (renamed_op n.name w op)
+
+abbrev pub place_if : Standing → Option ℕ → ℕ → Standing
+place_if n None w = n
+place_if n (Some v) w = place n v w
 
 abbrev pub behind_op : Standing → Option ℕ → Op → Standing
 behind_op n None op = forget_if n (written_by op)
-behind_op n (Some w) op = put_if n (written_by op) w
+behind_op n (Some w) op = if is_there n w (source_of op) then place_if n (written_by op) w else put_if n (written_by op) w
 
 -- behind several operations, with the names of what they write
 abbrev pub behind : Standing → List (Option ℕ) → List Op → Standing
@@ -180,7 +194,7 @@ renamed names g = record {
 -- ---- the test
 
 abbrev pub all_stand : Standing → List ℕ → Bool
-all_stand n vs = list_all (stands n) vs
+all_stand n vs = list_all n.stands vs
 
 -- the operation does nothing but write a value
 abbrev pub writes_alone : Op → Bool
@@ -202,7 +216,7 @@ ops_stand n ws (op ∷ ops) = op_stands n (first_name ws) op && ops_stand (behin
 -- each of these values stands at this name
 
 abbrev pub is_at : Standing → Name → Bool
-is_at n x = stands n x.old && (n.name x.old == x.new)
+is_at n x = n.stands x.old && (n.name x.old == x.new)
 
 abbrev pub carries : Standing → List Name → Bool
 carries n xs = list_all (is_at n) xs

@@ -32,6 +32,8 @@ pub struct Colours<'a> {
     /// The kinds of values.
     kinds: &'a [u32],
     neighbours: &'a Neighbours,
+    /// The web with which each became one.
+    roots: Vec<u32>,
     /// The web in which each value is where the walk is.
     webs: Vec<u32>,
     /// The name of each web; none where it has none yet.
@@ -51,14 +53,15 @@ impl<'a> Colours<'a> {
         alloc: Global,
         kinds: &'a [u32],
         neighbours: &'a Neighbours,
-        webs: usize,
+        roots: Vec<u32>,
         room: Vec<u32>,
     ) -> Result<Colours<'a>, NoMemory> {
-        let to = vec![in alloc; NONE; webs]?;
+        let to = vec![in alloc; NONE; roots.len()]?;
         let webs = vec![in alloc; NONE; kinds.len()]?;
         Ok(Colours {
             kinds,
             neighbours,
+            roots,
             webs,
             to,
             names: Vec::new(alloc),
@@ -125,7 +128,7 @@ impl<'a> Colours<'a> {
         for _ in 0..self.neighbours.len() {
             match self.neighbours.link_at(place) {
                 Some(link) => {
-                    let name = at(self.to.as_slice(), link.with) as usize;
+                    let name = at(self.to.as_slice(), self.root_of(link.with)) as usize;
                     if name < self.names.len() {
                         self.names[name].taken = self.choices;
                     }
@@ -133,6 +136,18 @@ impl<'a> Colours<'a> {
                 }
                 None => return,
             }
+        }
+    }
+
+    fn root_of(&self, web: u32) -> u32 {
+        at(self.roots.as_slice(), web)
+    }
+
+    /// Each web gets the name of the one with which it became one.
+    fn spread(&mut self) {
+        for web in 0..self.roots.len().min(NONE as usize) as u32 {
+            let name = at(self.to.as_slice(), self.root_of(web));
+            put(&mut self.to, web, name);
         }
     }
 
@@ -150,7 +165,8 @@ impl<'a> Colours<'a> {
     fn write(&mut self, value: Option<Value>, web: u32) -> Result<(), NoMemory> {
         match value {
             Some(value) => {
-                put(&mut self.webs, value, web);
+                let root = self.root_of(web);
+                put(&mut self.webs, value, root);
                 self.visit(value)
             }
             None => Ok(()),
@@ -171,7 +187,8 @@ impl<'a> Colours<'a> {
     /// At the start of a block values are in these webs.
     fn enter(&mut self, start: &[Name]) {
         for name in start {
-            put(&mut self.webs, name.old, name.new);
+            let root = self.root_of(name.new);
+            put(&mut self.webs, name.old, root);
         }
     }
 
@@ -231,11 +248,11 @@ pub(crate) fn colours_of<'a>(
     names: &WebNames,
     kinds: &'a [u32],
     neighbours: &'a Neighbours,
-    webs: usize,
+    roots: Vec<u32>,
     room: Vec<u32>,
 ) -> Result<Colours<'a>, NoMemory> {
     let order = order_of(alloc, graph.blocks.as_slice())?;
-    let mut colours = Colours::new(alloc, kinds, neighbours, webs, room)?;
+    let mut colours = Colours::new(alloc, kinds, neighbours, roots, room)?;
     colours.walk_parameters(graph.parameters.as_slice(), names.parameters.as_slice())?;
     for block in order.as_slice() {
         match (
@@ -246,5 +263,6 @@ pub(crate) fn colours_of<'a>(
             _ => {}
         }
     }
+    colours.spread();
     Ok(colours)
 }

@@ -9,6 +9,7 @@ pub mod laws;
 mod made_block;
 mod made_graph;
 mod made_ops;
+mod moves;
 pub mod names;
 mod neighbours;
 mod renamed_flow;

@@ -1,16 +1,19 @@
 // The operations of a block under names, each tested and made in one turn.
 
-ghost use Rattle.std.specs.Prelude.{◌≡◌, ◌++◌, IfOk, IfSome, None, Some, map, slice_index_or, true};
-ghost use Rattle.vx_flow.specs.Operands.{with_value_in};
-ghost use Rattle.vx_rename.specs.Renaming.{op_if, renamed_exit, renamed_op, renamed_result, writes_alone};
+ghost use Rattle.std.specs.Prelude.{◌≡◌, ◌++◌, if◌then◌else◌, IfOk, IfSome, None, Some, false, map, slice_index_or, true};
+ghost use Rattle.vx_flow.specs.Effects.{is_unary, reads};
+ghost use Rattle.vx_flow.specs.Operands.{held_by, with_value_in};
+ghost use Rattle.vx_rename.specs.Renaming.{all_stand, is_there, op_if, renamed_exit, renamed_op, renamed_result, source_of, writes_alone};
 ghost use Rattle.vx_rename.specs.Making.{name_in, OpMade, OpsMade, standing};
 
-use crate::table::{forget_if, name_of, put_if, reads_stand};
+use crate::names::Name;
+use crate::table::{Table, name_of};
 use std::alloc::Global;
+use vx_base::arithmetic::Code;
 use vx_base::listed::Listed;
 use vx_base::outcome::NoMemory;
 use vx_flow::graph::{Exit, Op, Operand, Value};
-use vx_flow::operands::written_by;
+use vx_flow::operands::{held_by, written_by};
 
 fn renamed_operand(names: &[Value], operand: &Operand) -> Operand
     ensures { result ≡ with_value_in (name_in names.now) operand.now }
@@ -99,21 +102,73 @@ fn renamed_op(names: &[Value], to: Value, op: &Op) -> Op
     }
 }
 
-/// The operation under names, where it reads values that stand; behind it stands what it writes.
-fn named_op(
-    names: &mut Vec<Value>,
-    holders: &mut Vec<Option<Value>>,
-    to: Value,
-    op: &Op,
-) -> Option<Option<Op>>
-    ensures { IfSome result (λ made. OpMade (standing names.old.items holders.old.items) (Some to) op.now made (standing names.new.items holders.new.items)) }
+fn source_by(code: Code, left: &Operand) -> Option<Value>
+    ensures { result ≡ (if is_unary code then held_by left.now else None) }
 {
-    if !reads_stand(names.as_slice(), holders.as_slice(), op) {
+    match code {
+        Code::Mov => held_by(left),
+        _ => None,
+    }
+}
+
+/// The value that a move reads.
+pub fn source_of(op: &Op) -> Option<Value>
+    ensures { result ≡ source_of op.now }
+{
+    match op {
+        Op::Compute { code, left, .. } => source_by(*code, left),
+        _ => None,
+    }
+}
+
+/// Whether a move reads a value that stands at this name.
+fn is_there(table: &Table, to: Value, op: &Op) -> bool
+    ensures { result ≡ is_there (standing table.now) to (source_of op.now) }
+{
+    match source_of(op) {
+        Some(value) => table.is_at(Name {
+            old: value,
+            new: to,
+        }),
+        None => false,
+    }
+}
+
+/// The operation under names; behind it stands what it writes.
+fn named_op(table: &mut Table, to: Value, op: &Op) -> Option<Option<Op>>
+    requires stand { all_stand (standing table.old) (reads op.now) ≡ true }
+    requires apart { is_there (standing table.old) to (source_of op.now) ≡ false }
+    ensures { IfSome result (λ made. OpMade (standing table.old) (Some to) op.now made (standing table.new)) }
+{
+    let made = renamed_op(table.names(), to, op);
+    if table.put_if(written_by(op), to) {
+        Some(Some(made))
+    } else {
+        None
+    }
+}
+
+/// A move of what stands at the name already is not made; behind it stands there what it writes.
+fn stays(table: &mut Table, to: Value, op: &Op) -> bool
+    requires stand { all_stand (standing table.old) (reads op.now) ≡ true }
+    requires there { is_there (standing table.old) to (source_of op.now) ≡ true }
+    ensures { result ≡ true → OpMade (standing table.old) (Some to) op.now None (standing table.new) }
+{
+    table.place_if(written_by(op), to)
+}
+
+/// The operation under names, where it reads values that stand.
+fn with_name(table: &mut Table, to: Value, op: &Op) -> Option<Option<Op>>
+    ensures { IfSome result (λ made. OpMade (standing table.old) (Some to) op.now made (standing table.new)) }
+{
+    if !table.reads_stand(op) {
         return None;
     }
-    let made = renamed_op(names.as_slice(), to, op);
-    if put_if(names, holders, written_by(op), to) {
-        Some(Some(made))
+    if !is_there(table, to, op) {
+        return named_op(table, to, op);
+    }
+    if stays(table, to, op) {
+        Some(None)
     } else {
         None
     }
@@ -130,25 +185,25 @@ pub fn writes_alone(op: &Op) -> bool
 }
 
 /// An operation is left out, where it does nothing but write; behind it what it writes does not stand.
-fn is_left_out(names: &[Value], holders: &mut Vec<Option<Value>>, op: &Op) -> bool
-    ensures { result ≡ true → OpMade (standing names.now holders.old.items) None op.now None (standing names.now holders.new.items) }
+fn is_left_out(table: &mut Table, op: &Op) -> bool
+    ensures { result ≡ true → OpMade (standing table.old) None op.now None (standing table.new) }
 {
-    writes_alone(op) && forget_if(names, holders, written_by(op))
+    if writes_alone(op) {
+        table.forget_if(written_by(op));
+        true
+    } else {
+        false
+    }
 }
 
 /// The operation under names, none where it has no name and is left out; none of both where it does not pass.
-fn made_op(
-    names: &mut Vec<Value>,
-    holders: &mut Vec<Option<Value>>,
-    to: Option<Value>,
-    op: &Op,
-) -> Option<Option<Op>>
-    ensures { IfSome result (λ made. OpMade (standing names.old.items holders.old.items) to op.now made (standing names.new.items holders.new.items)) }
+fn made_op(table: &mut Table, to: Option<Value>, op: &Op) -> Option<Option<Op>>
+    ensures { IfSome result (λ made. OpMade (standing table.old) to op.now made (standing table.new)) }
 {
     match to {
-        Some(to) => named_op(names, holders, to, op),
+        Some(to) => with_name(table, to, op),
         None => {
-            if is_left_out(names.as_slice(), holders, op) {
+            if is_left_out(table, op) {
                 Some(None)
             } else {
                 None
@@ -170,16 +225,15 @@ fn push_if(ops: &mut Listed<Op>, op: Option<Op>) -> Result<(), NoMemory>
 /// The operations under names, one after the other.
 pub fn made_ops(
     alloc: Global,
-    names: &mut Vec<Value>,
-    holders: &mut Vec<Option<Value>>,
+    table: &mut Table,
     written: &[Option<Value>],
     ops: &[Op],
 ) -> Result<Option<Listed<Op>>, NoMemory>
-    ensures { IfOk result (λ found. IfSome found (λ made. OpsMade (standing names.old.items holders.old.items) written.now ops.now made (standing names.new.items holders.new.items))) }
+    ensures { IfOk result (λ found. IfSome found (λ made. OpsMade (standing table.old) written.now ops.now made (standing table.new))) }
 {
     let mut made = Listed::new(alloc);
     for (place, op) in ops.iter().enumerate() {
-        match made_op(names, holders, name_at(written, place), op) {
+        match made_op(table, name_at(written, place), op) {
             Some(new) => push_if(&mut made, new)?,
             None => return Ok(None),
         }

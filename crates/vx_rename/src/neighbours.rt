@@ -35,16 +35,47 @@ impl Neighbours {
 
     /// Makes two webs neighbours.
     pub(crate) fn link(&mut self, one: u32, other: u32) -> Result<(), NoMemory> {
-        self.link_to(one, other)?;
-        self.link_to(other, one)
+        self.note(one, other)?;
+        self.note(other, one)
     }
 
-    fn link_to(&mut self, web: u32, with: u32) -> Result<(), NoMemory> {
+    /// Notes one more link of a web.
+    pub(crate) fn note(&mut self, web: u32, with: u32) -> Result<(), NoMemory> {
         let place = self.links.len().min(NONE as usize) as u32;
         let next = at(self.heads.as_slice(), web);
         self.links.push(Link { with, next })?;
         put(&mut self.heads, web, place);
         Ok(())
+    }
+
+    /// The place of the last link of a web.
+    fn last(&self, web: u32) -> u32 {
+        let mut place = at(self.heads.as_slice(), web);
+        for _ in 0..self.links.len() {
+            match self.link_at(place) {
+                Some(link) => {
+                    if link.next == NONE {
+                        return place;
+                    }
+                    place = link.next;
+                }
+                None => return NONE,
+            }
+        }
+        NONE
+    }
+
+    /// The links of one web become links of another too.
+    pub(crate) fn join(&mut self, from: u32, to: u32) {
+        let last = self.last(from) as usize;
+        if last < self.links.len() {
+            self.links[last] = Link {
+                with: self.links[last].with,
+                next: at(self.heads.as_slice(), to),
+            };
+            let first = at(self.heads.as_slice(), from);
+            put(&mut self.heads, to, first);
+        }
     }
 
     /// Whether there may be no more links, so that some may not be there.

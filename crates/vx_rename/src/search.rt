@@ -2,6 +2,7 @@
 
 use crate::colours::colours_of;
 use crate::kinds::{BASE, BRANCH, GENERAL, count_of, counts_of, kinds_of};
+use crate::moves::merge_moves;
 use crate::names::GraphNames;
 use crate::shared_names::names_by;
 use crate::value_sets::{NONE, at, put};
@@ -61,25 +62,27 @@ fn names_within(
 ) -> Result<GraphNames, NoMemory> {
     let counts = counts_of(alloc, kinds, &mut walk.webs, graph.arrays.len())?;
     let rooms = rooms_of(alloc, counts.as_slice(), within(room, kinds))?;
-    let most_links = if is_roomy(counts.as_slice(), rooms.as_slice()) {
-        0
-    } else {
-        MOST_LINKS
-    };
+    let is_enough = is_roomy(counts.as_slice(), rooms.as_slice());
     drop(counts);
+    let is_apart = room.general == u32::MAX;
+    let most_links = if is_enough && is_apart { 0 } else { MOST_LINKS };
     let names = web_names(alloc, graph, live, walk, most_links)?;
-    if most_links > 0 && walk.neighbours.is_full() {
+    if !is_enough && walk.neighbours.is_full() {
         return own_names(alloc, graph, &names, &walk.webs);
     }
-    let colours = colours_of(
-        alloc,
-        graph,
-        &names,
-        kinds,
-        &walk.neighbours,
-        walk.webs.len(),
-        rooms,
-    )?;
+    if !is_apart && !walk.neighbours.is_full() {
+        merge_moves(
+            alloc,
+            graph,
+            &names,
+            kinds,
+            rooms.as_slice(),
+            &mut walk.webs,
+            &mut walk.neighbours,
+        )?;
+    }
+    let roots = walk.webs.roots(alloc)?;
+    let colours = colours_of(alloc, graph, &names, kinds, &walk.neighbours, roots, rooms)?;
     if colours.is_crowded() {
         return own_names(alloc, graph, &names, &walk.webs);
     }

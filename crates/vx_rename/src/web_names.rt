@@ -2,7 +2,7 @@
 // write a value that is not live behind them. One walk unites webs, and a second one notes which are neighbours and makes the names.
 
 use crate::made_block::result_of;
-use crate::made_ops::writes_alone;
+use crate::made_ops::{source_of, writes_alone};
 use crate::names::{BlockNames, Name};
 use crate::neighbours::Neighbours;
 use crate::value_sets::{NONE, ValueSet, at};
@@ -89,17 +89,18 @@ impl Walk {
         Ok(())
     }
 
-    /// A value is written: the web that is live behind it is not before, and those of the others are its neighbours.
-    fn write(&mut self, value: Value) -> Result<u32, NoMemory> {
+    /// A value is written: the web that is live behind it is not before, and those of the others are its neighbours, but for that of
+    /// a value that was moved to it.
+    fn write(&mut self, value: Value, source: Option<Value>) -> Result<u32, NoMemory> {
         self.visit(value)?;
         let web = self.set.number_of(value);
         self.set.take(value);
-        self.link(web)?;
+        self.link(web, source)?;
         Ok(self.webs.find(web))
     }
 
-    /// What is live is a neighbour of a web.
-    fn link(&mut self, web: u32) -> Result<(), NoMemory> {
+    /// What is live, but for one value, is a neighbour of a web.
+    fn link(&mut self, web: u32, but: Option<Value>) -> Result<(), NoMemory> {
         if self.neighbours.is_full() {
             return Ok(());
         }
@@ -107,8 +108,10 @@ impl Walk {
         let count = self.set.items().len().min(NONE as usize) as u32;
         for place in 0..count {
             let value = at(self.set.items(), place);
-            let other = self.webs.find(self.set.number_of(value));
-            self.neighbours.link(from, other)?;
+            if Some(value) != but {
+                let other = self.webs.find(self.set.number_of(value));
+                self.neighbours.link(from, other)?;
+            }
         }
         Ok(())
     }
@@ -123,7 +126,7 @@ impl Walk {
             Exit::Return(_) | Exit::Ends(_) => {}
         }
         let result = match result_of(exit) {
-            Some(value) => self.write(value)?,
+            Some(value) => self.write(value, None)?,
             None => 0,
         };
         visit_exit(self, exit)?;
@@ -137,7 +140,7 @@ impl Walk {
                 if writes_alone(op) && self.set.number_of(value) == NONE {
                     return Ok(None);
                 }
-                self.write(value)?
+                self.write(value, source_of(op))?
             }
             None => 0,
         };
@@ -164,14 +167,14 @@ impl Walk {
         self.set.clear();
         let mut web = at(self.firsts.as_slice(), 0);
         for value in live.values_at(0) {
-            self.link(web)?;
+            self.link(web, None)?;
             self.set.put(*value, web)?;
             web = web.saturating_add(1);
         }
         for value in parameters {
             if self.set.number_of(*value) == NONE {
                 let web = self.take_web(*value)?;
-                self.link(web)?;
+                self.link(web, None)?;
                 self.set.put(*value, web)?;
             }
         }

@@ -57,6 +57,16 @@ impl Webs {
         found
     }
 
+    /// The number that stands for each web.
+    pub(crate) fn roots(&mut self, alloc: Global) -> Result<Vec<u32>, NoMemory> {
+        let mut roots = Vec::new(alloc);
+        let count = self.ups.len().min(NONE as usize) as u32;
+        for web in 0..count {
+            roots.push(self.find(web))?;
+        }
+        Ok(roots)
+    }
+
     /// Makes two webs one.
     pub(crate) fn unite(&mut self, one: u32, other: u32) {
         let from = self.find(one);
