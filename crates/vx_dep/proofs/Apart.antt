@@ -22,12 +22,12 @@ use Rattle.vx_dep.proofs.Written.{reads_two}
 use Rattle.vx_dep.proofs.Standing.{IsMapped, unmapped, tells, delay_is}
 use Rattle.vx_dep.proofs.Quiet.{neither, not_both}
 
-none_of : (x y : Bool) → (x || y) ≡ false → (x ≡ false) × (y ≡ false)
+pub none_of : (x y : Bool) → (x || y) ≡ false → (x ≡ false) × (y ≡ false)
 none_of false false e = (refl, refl)
 none_of true y e = absurd (true≢false e)
 none_of false true e = absurd (true≢false e)
 
-not_so : (x : Bool) → not x ≡ true → x ≡ false
+pub not_so : (x : Bool) → not x ≡ true → x ≡ false
 not_so true e = absurd (false≢true e)
 not_so false e = refl
 

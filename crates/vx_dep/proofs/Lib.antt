@@ -11,5 +11,8 @@ pub mod Rising
 pub mod Kept
 pub mod Moved
 pub mod Looking
+pub mod Linked
+pub mod Nearby
+pub mod Sought
 mod CopyRows
 mod DelayRows

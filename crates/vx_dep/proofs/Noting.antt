@@ -12,7 +12,7 @@ use Rattle.vx_dep.specs.Delays.{Applies, IsDelay}
 use Rattle.vx_dep.specs.Earlier.{IsListed, AreEarlier, AreAllEarlier, NoneBetween, list_at, noted}
 use Rattle.vx_dep.proofs.Telling.{less_or}
 
-still_listed : (list more : List Earlier) (i words : ℕ) → IsListed list i words → IsListed (list ++ more) i words
+pub still_listed : (list more : List Earlier) (i words : ℕ) → IsListed list i words → IsListed (list ++ more) i words
 still_listed list more i words is = record { entry = is.entry; is = in_left is.entry list more is.is; place = is.place; delay = is.delay }
 
 module _ (m : Numbers) (mode : Mode) (t : Trace) where

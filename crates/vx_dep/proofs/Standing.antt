@@ -74,7 +74,7 @@ unmapped f [] k y e = absurd cc
 unmapped f (x ∷ xs) zero y e = let h : y ≡ f x = cc in record { from = x; there = refl; is = h }
 unmapped f (x ∷ xs) (suc k) y e = let h = unmapped f xs k y e in record { from = h.from; there = h.there; is = h.is }
 
-mapped_none : {A B : Type 0} (f : A → B) (xs : List A) (k : ℕ) → slice_get (map f xs) k ≡ None → slice_get xs k ≡ None
+pub mapped_none : {A B : Type 0} (f : A → B) (xs : List A) (k : ℕ) → slice_get (map f xs) k ≡ None → slice_get xs k ≡ None
 mapped_none f [] k e = refl
 mapped_none f (x ∷ xs) zero e = absurd cc
 mapped_none f (x ∷ xs) (suc k) e = mapped_none f xs k e

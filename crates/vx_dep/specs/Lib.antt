@@ -6,5 +6,8 @@ pub mod Rows
 pub mod Keys
 pub mod Sights
 pub mod Earlier
+pub mod Links
+pub mod Chains
+pub mod Near
 pub mod Heights
 pub mod Deps

@@ -2,13 +2,16 @@
 // meet.
 #![tactic(auto)]
 
+mod chains;
 pub mod copies;
 mod deps;
 mod earlier;
 mod heights;
 mod keys;
 pub mod laws;
+mod links;
 pub mod mode;
+mod near;
 mod rows;
 mod sights;
 mod tables;

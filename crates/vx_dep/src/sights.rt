@@ -144,7 +144,7 @@ impl<'a> Sight<'a> {
     }
 
     /// What is asked first of the operation at a place.
-    fn key(&self, place: usize) -> Option<&Key>
+    pub(crate) fn key(&self, place: usize) -> Option<&Key>
         ensures some { IfSome result (λ key. slice_get self.now.keys place ≡ Some key.now) }
         ensures none { IfNone result (slice_get self.now.keys place ≡ None) }
     {

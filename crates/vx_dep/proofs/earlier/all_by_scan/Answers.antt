@@ -2,7 +2,7 @@ use Rattle.std.proofs.Common.{rules, ◌≡◌, ◌<◌, ◌≤◌, ◌++◌, []
 use Rattle.std.proofs.lemmas.List.{length-append}
 use Rattle.vx_dep.specs.Earlier.{AreEarlier}
 use Rattle.vx_dep.proofs.Noting.{no_lists, one_more_list, all_lists}
-use Rattle.vx_dep.proofs.earlier.all_earlier.Goals as goal
+use Rattle.vx_dep.proofs.earlier.all_by_scan.Goals as goal
 
 pub find-preserved : goal.find-preserved
 find-preserved c =
