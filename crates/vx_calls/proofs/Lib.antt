@@ -2,6 +2,7 @@ pub mod CallSteps
 pub mod Waits
 pub mod Globals
 pub mod Offsets
+pub mod Marked
 pub mod FrameLists
 pub mod SavedLists
 pub mod LeadsWithin

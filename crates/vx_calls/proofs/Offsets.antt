@@ -10,16 +10,29 @@ use Rattle.vx_regs.specs.Marks.{is_marked, Marks}
 use Rattle.vx_regs.proofs.Marking.{in_either, in_left, in_right}
 use Rattle.vx_calls.proofs.Pieces.{placed_more}
 use Rattle.vx_calls.specs.Framing.{SlotNeeded}
-use Rattle.vx_calls.specs.Slots.{FrameStands, Marking, arrays_end, arrays_from, in_slots, joined, slots_end, slots_from}
+use Rattle.vx_calls.proofs.Marked.{as_many_slots, is_marked_in, marked_from, marked_once, own_behind}
+use Rattle.vx_calls.specs.Slots.{FrameStands, Marking, MarksJust, arrays_end, arrays_from, in_slots, joined, slots_end, slots_from}
 
 -- marks of one step after the other
 
 pub none_marked : (vs : List ℕ) (a : List Bool) → Marking vs vs a a
-none_marked vs a = record { named = λ v i. inr i; kept = λ v h. h }
+none_marked vs a = record { named = λ v i. inr i; kept = λ v h. h; only = λ v h. inl h; among = λ v i. i }
 
-pub more_marked : (vs xs left rest : List ℕ) (old a b : List Bool) → left ≡ xs ++ rest → Marking vs left old a → Marks xs a b → Marking vs rest old b
-more_marked vs xs left rest old a b e m more = record { named = λ v i. by v (m.named v i); kept = λ v h. more.kept v (m.kept v h) }
+pub more_marked : (vs xs left rest : List ℕ) (old a b : List Bool) → left ≡ xs ++ rest → Marking vs left old a → MarksJust xs a b → Marking vs rest old b
+more_marked vs xs left rest old a b e m just = record {
+  named = λ v i. by v (m.named v i);
+  kept = λ v h. more.kept v (m.kept v h);
+  only = λ v h. before v (just.only v h);
+  among = λ v i. m.among v (subst (IsIn v) (sym e) (in_right v xs rest i));
+}
   where
+    more : Marks xs a b
+    more = just.marks
+
+    before : (v : ℕ) → (is_marked a v ≡ true) ⊎ IsIn v xs → (is_marked old v ≡ true) ⊎ IsIn v vs
+    before v (inl h) = m.only v h
+    before v (inr i) = inr (m.among v (subst (IsIn v) (sym e) (in_left v xs rest i)))
+
     next_ : (v : ℕ) → IsIn v xs ⊎ IsIn v rest → (is_marked b v ≡ true) ⊎ IsIn v rest
     next_ v (inl i) = inl (more.named v i)
     next_ v (inr i) = inr i
@@ -28,16 +41,37 @@ more_marked vs xs left rest old a b e m more = record { named = λ v i. by v (m.
     by v (inl h) = inl (more.kept v h)
     by v (inr i) = next_ v (in_either v xs rest (subst (IsIn v) e i))
 
-pub all_marked : (vs : List ℕ) (old new : List Bool) → Marking vs [] old new → Marks vs old new
-all_marked vs old new m = record { named = λ v i. by v (m.named v i); kept = m.kept }
+pub all_marked : (vs : List ℕ) (old new : List Bool) → Marking vs [] old new → MarksJust vs old new
+all_marked vs old new m = record { marks = record { named = λ v i. by v (m.named v i); kept = m.kept }; only = m.only }
   where
     by : (v : ℕ) → (is_marked new v ≡ true) ⊎ IsIn v [] → is_marked new v ≡ true
     by v (inl h) = h
     by v (inr i) = absurd i
 
-pub one_list : (saved : List (List ℕ)) (i : ℕ) (vs : List ℕ) (old a b : List Bool) → i < length saved → vs ≡ get_or saved i vs → Marking (joined saved) (joined (drop i saved)) old a → Marks vs a b → Marking (joined saved) (joined (drop (i + 1) saved)) old b
+pub one_list : (saved : List (List ℕ)) (i : ℕ) (vs : List ℕ) (old a b : List Bool) → i < length saved → vs ≡ get_or saved i vs → Marking (joined saved) (joined (drop i saved)) old a → MarksJust vs a b → Marking (joined saved) (joined (drop (i + 1) saved)) old b
 one_list saved i vs old a b h e m more =
     more_marked (joined saved) vs (joined (drop i saved)) (joined (drop (i + 1) saved)) old a b (ap joined (drop_more saved i vs h ∙ ap (λ xs. xs ∷ drop (i + 1) saved) (sym e))) m more
+
+-- one value more that may be in a slot
+
+slotted_left : (ks : List Kept) (i : ℕ) (d : Kept) → i < length ks → in_slots i (drop i ks) ≡ in_slots i (get_or ks i d ∷ drop (i + 1) ks)
+slotted_left ks i d lt = ap (in_slots i) (drop_more ks i d lt)
+
+next_slots : (ks : List Kept) (i : ℕ) → in_slots (suc i) (drop (i + 1) ks) ≡ in_slots (i + 1) (drop (i + 1) ks)
+next_slots ks i = let e : suc i ≡ i + 1 = omega arith in ap (λ n. in_slots n (drop (i + 1) ks)) e
+
+pub slotted_more : (ks : List Kept) (i k : ℕ) (d : Kept) (old a b : List Bool) → i < length ks → get_or ks i d ≡ InSlot k → Marking (in_slots 0 ks) (in_slots i (drop i ks)) old a → MarksJust (i ∷ []) a b → Marking (in_slots 0 ks) (in_slots (i + 1) (drop (i + 1) ks)) old b
+slotted_more ks i k d old a b lt is m more =
+    more_marked (in_slots 0 ks) (i ∷ []) (in_slots i (drop i ks)) (in_slots (i + 1) (drop (i + 1) ks)) old a b
+    (slotted_left ks i d lt ∙ ap (λ z. in_slots i (z ∷ drop (i + 1) ks)) is ∙ ap (λ vs. i ∷ vs) (next_slots ks i)) m more
+
+pub unslotted_more : (ks : List Kept) (i : ℕ) (d : Kept) (old a : List Bool) → i < length ks → ((k : ℕ) → get_or ks i d ≡ InSlot k → ⊥) → Marking (in_slots 0 ks) (in_slots i (drop i ks)) old a → Marking (in_slots 0 ks) (in_slots (i + 1) (drop (i + 1) ks)) old a
+unslotted_more ks i d old a lt other m = subst (λ left. Marking (in_slots 0 ks) left old a) (slotted_left ks i d lt ∙ by (get_or ks i d) other ∙ next_slots ks i) m
+  where
+    by : (x : Kept) → ((k : ℕ) → x ≡ InSlot k → ⊥) → in_slots i (x ∷ drop (i + 1) ks) ≡ in_slots (suc i) (drop (i + 1) ks)
+    by (InRegister n) other = refl
+    by (InSlot k) other = absurd (other k refl)
+    by Nowhere other = refl
 
 -- what needs a slot is marked
 
@@ -57,6 +91,40 @@ slotted_in n (Nowhere ∷ ks) (suc v) k e = let z : suc n + v ≡ n + suc v = om
 
 in_slot : (ks : List Kept) (v k : ℕ) → slice_index_or ks v Nowhere ≡ InSlot k → IsIn v (in_slots 0 ks)
 in_slot ks v k e = let z : 0 + v ≡ v = omega arith in subst (λ u. IsIn u (in_slots 0 ks)) z (slotted_in 0 ks v k e)
+
+-- and nothing else is
+
+joined_in : (saved : List (List ℕ)) (v : ℕ) → IsIn v (joined saved) → (p : ℕ) × IsIn v (slice_index_or saved p [])
+joined_in [] v i = absurd i
+joined_in (vs ∷ more) v i = elim (in_either v vs (joined more) i) [
+  | inl a ↦ (0, a)
+  | inr b ↦ let r = joined_in more v b in (suc r.0, r.1)
+]
+
+record Slotted (n : ℕ) (ks : List Kept) (v : ℕ) : Type 0 where
+  i : ℕ
+  k : ℕ
+  is : v ≡ n + i
+  kept : slice_index_or ks i Nowhere ≡ InSlot k
+
+further : (n : ℕ) (x : Kept) (ks : List Kept) (v : ℕ) → Slotted (suc n) ks v → Slotted n (x ∷ ks) v
+further n x ks v r = let e = r.is in let j = r.i in let z : v ≡ n + suc j = omega arith in record { i = suc j; k = r.k; is = z; kept = r.kept }
+
+slotted : (n : ℕ) (ks : List Kept) (v : ℕ) → IsIn v (in_slots n ks) → Slotted n ks v
+slotted n [] v h = absurd h
+slotted n (InRegister m ∷ ks) v h = further n (InRegister m) ks v (slotted (suc n) ks v h)
+slotted n (InSlot m ∷ ks) v (inl e) = let z : v ≡ n + 0 = omega arith in record { i = 0; k = m; is = z; kept = refl }
+slotted n (InSlot m ∷ ks) v (inr h) = further n (InSlot m) ks v (slotted (suc n) ks v h)
+slotted n (Nowhere ∷ ks) v h = further n Nowhere ks v (slotted (suc n) ks v h)
+
+needed : (parameters : List ℕ) (map : RegMap) (saved : List (List ℕ)) (v : ℕ) → IsIn v (parameters ++ (in_slots 0 map.values ++ joined saved)) → SlotNeeded parameters map saved v
+needed parameters map saved v h = elim (in_either v parameters (in_slots 0 map.values ++ joined saved) h) [
+  | inl a ↦ SlotNeeded.is_passed a
+  | inr b ↦ elim (in_either v (in_slots 0 map.values) (joined saved) b) [
+    | inl c ↦ let r = slotted 0 map.values v c in let e = r.is in let j = r.i in let z : j ≡ v = omega arith in SlotNeeded.is_kept r.k (subst (λ u. slice_index_or map.values u Nowhere ≡ InSlot r.k) z r.kept)
+    | inr d ↦ let r = joined_in saved v d in SlotNeeded.is_saved r.0 r.1
+  ]
+]
 
 -- slots
 
@@ -197,9 +265,9 @@ own_apart n (y ∷ xs) (c ∷ addresses) (suc a) (suc b) x z e f h l = own_apart
 -- the frame
 
 frame_stands : (parameters : List ℕ) (map : RegMap) (saved : List (List ℕ)) (xs : List Array) (addresses : List ℕ) (marks : List Bool) →
-    Marks (parameters ++ (in_slots 0 map.values ++ joined saved)) [] marks →
+    MarksJust (parameters ++ (in_slots 0 map.values ++ joined saved)) [] marks →
     FrameStands parameters map saved xs addresses (slots_from 1 marks) (arrays_from (slots_end 1 marks) xs addresses) (arrays_end (slots_end 1 marks) xs addresses)
-frame_stands parameters map saved xs addresses marks m = record {
+frame_stands parameters map saved xs addresses marks just = record {
   between = slots_end 1 marks;
   behind_link = end_from 1 marks;
   slots = record {
@@ -214,20 +282,32 @@ frame_stands parameters map saved xs addresses marks m = record {
     own_apart = own_apart (slots_end 1 marks) xs addresses;
   };
   within = end_behind (slots_end 1 marks) xs addresses;
+  size = record {
+    values = marked_from 0 marks;
+    once = marked_once 0 marks;
+    each = λ v h. elim (just.only v (is_marked_in marks v h)) [
+      | inl none ↦ absurd (let z : false ≡ true = none in cc)
+      | inr i ↦ needed parameters map saved v i
+    ];
+    words_are = (let a = own_behind (slots_end 1 marks) xs addresses in let b = as_many_slots 1 0 marks in omega arith);
+  };
 }
   where
+    m : Marks (parameters ++ (in_slots 0 map.values ++ joined saved)) [] marks
+    m = just.marks
+
     marked : (v : ℕ) → SlotNeeded parameters map saved v → is_marked marks v ≡ true
     marked v (SlotNeeded.is_passed i) = m.named v (in_left v parameters (in_slots 0 map.values ++ joined saved) i)
     marked v (SlotNeeded.is_kept k e) = m.named v (in_right v parameters (in_slots 0 map.values ++ joined saved) (in_left v (in_slots 0 map.values) (joined saved) (in_slot map.values v k e)))
     marked v (SlotNeeded.is_saved p i) = m.named v (in_right v parameters (in_slots 0 map.values ++ joined saved) (in_right v (in_slots 0 map.values) (joined saved) (in_joined saved p v i)))
 
 pub stood : (parameters : List ℕ) (map : RegMap) (saved : List (List ℕ)) (xs ys : List Array) (addresses : List ℕ) (marks ms : List Bool) (ps : List ℕ) (ks : List Kept) (slots begins : List ℕ) (next words : ℕ) →
-    ps ≡ parameters → ks ≡ map.values → ms ≡ marks → ys ≡ xs → Marks (ps ++ (in_slots 0 ks ++ joined saved)) [] marks →
+    ps ≡ parameters → ks ≡ map.values → ms ≡ marks → ys ≡ xs → MarksJust (ps ++ (in_slots 0 ks ++ joined saved)) [] marks →
     slots ≡ slots_from 1 ms → next ≡ slots_end 1 ms → begins ≡ arrays_from next ys addresses → words ≡ arrays_end next ys addresses →
     FrameStands parameters map saved xs addresses slots begins words
 stood parameters map saved xs ys addresses marks ms ps ks slots begins next words a b c d m e f g h =
-    let first : Marks (parameters ++ (in_slots 0 ks ++ joined saved)) [] marks = subst (λ z. Marks (z ++ (in_slots 0 ks ++ joined saved)) [] marks) a m in
-    let all : Marks (parameters ++ (in_slots 0 map.values ++ joined saved)) [] marks = subst (λ z. Marks (parameters ++ (in_slots 0 z ++ joined saved)) [] marks) b first in
+    let first : MarksJust (parameters ++ (in_slots 0 ks ++ joined saved)) [] marks = subst (λ z. MarksJust (z ++ (in_slots 0 ks ++ joined saved)) [] marks) a m in
+    let all : MarksJust (parameters ++ (in_slots 0 map.values ++ joined saved)) [] marks = subst (λ z. MarksJust (parameters ++ (in_slots 0 z ++ joined saved)) [] marks) b first in
     let n = slots_end 1 marks in
     let s : slots_from 1 marks ≡ slots = cc in
     let t : arrays_from n xs addresses ≡ begins = cc in

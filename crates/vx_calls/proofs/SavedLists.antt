@@ -14,6 +14,7 @@ use Rattle.vx_regs.specs.declared.liveness.Living.{Living}
 use Rattle.vx_regs.specs.declared.map.Kept.{Kept}
 use Rattle.vx_regs.specs.declared.map.Kept.TheVariants.{InRegister, InSlot, Nowhere}
 use Rattle.vx_regs.specs.declared.map.RegMap.{RegMap}
+use Rattle.vx_regs.specs.Intervals.{IsLive}
 use Rattle.vx_regs.specs.Ways.{lives_there, LivesAt}
 use Rattle.vx_calls.specs.Framing.{SurvivesIn, ArrivesIn, SavesIn}
 use Rattle.vx_target.specs.Tied.{IsResult}
@@ -118,6 +119,11 @@ saved_row living values p (w ∷ words) (suc i) word h =
     let z : p + 1 + i + 1 ≡ p + suc i + 1 = omega arith in
     saved_row living values (p + 1) words i word h ∙ ap (λ n. saved_round living values n word) z
 
+row_there : (living : Living) (values : List ℕ) (p : ℕ) (words : List VirtualWord) (i v : ℕ) → IsIn v (slice_index_or (saved_from living values p words) i []) → (word : VirtualWord) × (slice_get words i ≡ Some word)
+row_there living values p [] i v h = absurd h
+row_there living values p (w ∷ words) zero v h = (w, refl)
+row_there living values p (w ∷ words) (suc i) v h = row_there living values (p + 1) words i v h
+
 round_once : (living : Living) (values : List ℕ) (next : ℕ) (word : VirtualWord) → NoTwice values → NoTwice (saved_round living values next word)
 round_once living values next (Planned r w items) h = tt
 round_once living values next (Drain n) h = tt
@@ -171,6 +177,19 @@ module _ (parameters : List ℕ) (l : VWords) (map : RegMap) (living : Living) (
       let n = is_register v k.0 in
       record { live = (lives.behind p g v arguments result at).0 b.1; other = result_is result v (not_so (is_result result v) b.0); number = n.0; register = n.1 }
 
+  -- what is saved at all is live behind
+  live_behind : (p v : ℕ) → IsIn v (slice_index_or (saved_from living V 0 l.words) p []) → IsLive l (suc p) v
+  live_behind p v h = let r = row_there living V 0 l.words p v h in by r.0 r.1 (subst (IsIn v) (saved_row living V 0 l.words p r.0 r.1) h)
+    where
+      by : (word : VirtualWord) → slice_get l.words p ≡ Some word → IsIn v (saved_round living V (0 + p + 1) word) → IsLive l (suc p) v
+      by (Planned r w items) at k = absurd k
+      by (Drain n) at k = absurd k
+      by (Transfer to) at k = absurd k
+      by (Choice test to) at k = absurd k
+      by (Call g arguments result) at k = (survives_in p g v arguments result at h).live
+      by (Return x) at k = absurd k
+      by (Ends n) at k = absurd k
+
   in_saved : (p g v : ℕ) (arguments : List Operand) (result : Option ℕ) → slice_get l.words p ≡ Some (Call g arguments result) → SurvivesIn l map p result v → IsIn v (slice_index_or (saved_from living V 0 l.words) p [])
   in_saved p g v arguments result at s =
       subst (IsIn v) (sym (row_is p g arguments result at))
@@ -194,6 +213,7 @@ module _ (parameters : List ℕ) (l : VWords) (map : RegMap) (living : Living) (
   lists_are = record {
     saved = survives_in;
     saves = in_saved;
+    live = live_behind;
     brought = arrives_in;
     brings = in_brought;
     saved_once = rows_once living V 0 l.words (registers_once 0 map.values);

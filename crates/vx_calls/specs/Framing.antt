@@ -13,6 +13,7 @@ use Rattle.vx_regs.specs.Intervals.{IsLive}
 use Rattle.vx_regs.specs.Mapped.{kept_of}
 use Rattle.vx_target.specs.Tied.{IsResult}
 use Rattle.vx_slots.specs.declared.program.FunctionFrame.{FunctionFrame}
+use Rattle.vx_calls.specs.Bounds.{HasSize, MayNeedSlot}
 
 -- what is saved and brought
 
@@ -34,6 +35,7 @@ pub record ArrivesIn (parameters : List ℕ) (l : VWords) (map : RegMap) (v : �
 pub record SavesIn (parameters : List ℕ) (l : VWords) (map : RegMap) (round : List (List ℕ)) (entering : List ℕ) : Type 0 where
   pub saved : (p g v : ℕ) (arguments : List Operand) (result : Option ℕ) → slice_get l.words p ≡ Some (Call g arguments result) → IsIn v (slice_index_or round p []) → SurvivesIn l map p result v
   pub saves : (p g v : ℕ) (arguments : List Operand) (result : Option ℕ) → slice_get l.words p ≡ Some (Call g arguments result) → SurvivesIn l map p result v → IsIn v (slice_index_or round p [])
+  pub live : (p v : ℕ) → IsIn v (slice_index_or round p []) → IsLive l (suc p) v
   pub brought : (v : ℕ) → IsIn v entering → ArrivesIn parameters l map v
   pub brings : (v : ℕ) → ArrivesIn parameters l map v → IsIn v entering
   pub saved_once : (p : ℕ) → NoTwice (slice_index_or round p [])
@@ -60,7 +62,7 @@ pub record ArraysStand (arrays : List Array) (addresses begins : List ℕ) (from
   pub own_to : (a : ℕ) (array : Array) → slice_get arrays a ≡ Some array → length addresses ≤ a → slice_index_or begins a 0 + array.words ≤ end
   pub own_apart : (a b : ℕ) (array other : Array) → slice_get arrays a ≡ Some array → slice_get arrays b ≡ Some other → length addresses ≤ a → a < b → slice_index_or begins a 0 + array.words ≤ slice_index_or begins b 0
 
--- the frame: the link in its first word, slots behind it, and then arrays
+-- the frame: the link in its first word, slots behind it, and then arrays, with no word more than these take
 pub record IsFrameOf (graph : Graph) (l : VWords) (map : RegMap) (addresses : List ℕ) (frame : FunctionFrame) : Type 0 where
   pub saves : SavesIn graph.parameters l map frame.saved frame.brought
   pub between : ℕ
@@ -68,3 +70,4 @@ pub record IsFrameOf (graph : Graph) (l : VWords) (map : RegMap) (addresses : Li
   pub slots : SlotsStand (SlotNeeded graph.parameters map frame.saved) frame.slots between
   pub arrays : ArraysStand graph.arrays addresses frame.arrays between frame.words
   pub within : between ≤ frame.words
+  pub size : HasSize (MayNeedSlot graph.parameters l map) (length addresses) graph.arrays frame.words

@@ -1,3 +1,4 @@
+pub mod Bounds
 pub mod Framing
 pub mod Saves
 pub mod LoopExample

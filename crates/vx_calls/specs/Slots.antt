@@ -1,19 +1,27 @@
 -- The slots of marked values and the arrays of a frame, one after the other.
-use Rattle.std.specs.Prelude.{◌≡◌, ◌≤◌, ◌⊎◌, ◌+◌, ℕ, suc, Bool, true, false, List, [], ◌∷◌, ◌++◌}
+use Rattle.std.specs.Prelude.{◌≡◌, ◌≤◌, ◌⊎◌, ◌+◌, ℕ, suc, Bool, true, false, List, [], ◌∷◌, ◌++◌, length}
 use Rattle.vx_flow.specs.declared.graph.Array.{Array}
 use Rattle.vx_flow.specs.Effects.{IsIn}
 use Rattle.vx_regs.specs.declared.map.Kept.{Kept}
 use Rattle.vx_regs.specs.declared.map.Kept.TheVariants.{InRegister, InSlot, Nowhere}
 use Rattle.vx_regs.specs.declared.map.RegMap.{RegMap}
-use Rattle.vx_regs.specs.Marks.{is_marked}
+use Rattle.vx_regs.specs.Marks.{is_marked, Marks}
+use Rattle.vx_calls.specs.Bounds.{HasSize}
 use Rattle.vx_calls.specs.Framing.{SlotNeeded, SlotsStand, ArraysStand}
 
 -- marks
 
--- each of these values is marked, or is one of those that are left; and what was marked stays marked
+-- these values are marked, besides what was marked, and no others
+pub record MarksJust (values : List ℕ) (old new : List Bool) : Type 0 where
+  pub marks : Marks values old new
+  pub only : (v : ℕ) → is_marked new v ≡ true → (is_marked old v ≡ true) ⊎ IsIn v values
+
+-- so far, where some of the values are left
 pub record Marking (values left : List ℕ) (old new : List Bool) : Type 0 where
   pub named : (v : ℕ) → IsIn v values → (is_marked new v ≡ true) ⊎ IsIn v left
   pub kept : (v : ℕ) → is_marked old v ≡ true → is_marked new v ≡ true
+  pub only : (v : ℕ) → is_marked new v ≡ true → (is_marked old v ≡ true) ⊎ IsIn v values
+  pub among : (v : ℕ) → IsIn v left → IsIn v values
 
 -- the values of all lists
 abbrev pub joined : List (List ℕ) → List ℕ
@@ -64,3 +72,4 @@ pub record FrameStands (parameters : List ℕ) (map : RegMap) (saved : List (Lis
   pub slots : SlotsStand (SlotNeeded parameters map saved) offsets between
   pub arrays : ArraysStand xs addresses begins between words
   pub within : between ≤ words
+  pub size : HasSize (SlotNeeded parameters map saved) (length addresses) xs words

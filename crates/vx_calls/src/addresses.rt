@@ -8,6 +8,7 @@ ghost use Rattle.vx_isa.specs.Machine.{memory_at_start};
 ghost use Rattle.vx_isa.specs.Sound.{is_start};
 ghost use Rattle.vx_target.specs.Frames.{first_or_zero};
 ghost use Rattle.vx_target.specs.Tied.{words_before};
+ghost use Rattle.vx_calls.specs.Bounds.{most_frame_words, most_global_words};
 ghost use Rattle.vx_calls.specs.Globals.{begins_from, first_from, firsts_from, is_set, words_in};
 
 use std::alloc::Global;
@@ -17,9 +18,6 @@ use vx_base::sizes::sum;
 use vx_flow::graph::Global as Variable;
 use vx_slots::numbers::DEEPEST;
 use vx_slots::program::Sizes;
-
-/// The most bytes of a memory; a larger one is want of memory.
-const MOST_BYTES: u32 = 132644864;
 
 /// Where globals begin, in words, and the words of all of them.
 #[derive(Drop)]
@@ -102,20 +100,13 @@ pub fn first_words(alloc: Global, globals: &[Variable]) -> Result<Listed<(u32, i
     Ok(start)
 }
 
-/// The bytes of the memory.
+/// The bytes of the memory, where the globals and each frame are within their bounds (specs/Bounds.antt).
 #[tactic(auto, unfolding(vx_flow::specs::Meaning::deepest))]
-pub fn memory_bytes(sizes: &Sizes) -> Result<u32, NoMemory>
-    ensures is { IfOk result (λ count. count ≡ 4 * (sizes.now.globals + sizes.now.frame * deepest)) }
-    ensures few { IfOk result (λ count. count ≤ 132644864) }
+pub fn memory_bytes(sizes: &Sizes) -> u32
+    requires globals { sizes.now.globals ≤ most_global_words }
+    requires frame { sizes.now.frame ≤ most_frame_words }
+    ensures is { result ≡ 4 * (sizes.now.globals + sizes.now.frame * deepest) }
+    ensures few { result ≤ 132644864 }
 {
-    match sizes.frame.checked_mul(DEEPEST) {
-        Some(frames) => {
-            let count = address(sum(sizes.globals, frames)?)?;
-            if count > MOST_BYTES {
-                return Err(NoMemory);
-            }
-            Ok(count)
-        }
-        None => Err(NoMemory),
-    }
+    4 * (sizes.globals + sizes.frame * DEEPEST)
 }

@@ -4,10 +4,10 @@
 ghost use Rattle.std.specs.Prelude.{◌≡◌, ◌<◌, ◌≤◌, ℕ, true, Some, [], ◌∷◌, ◌++◌, length, slice_get, slice_index_or, IfOk, OnOk};
 ghost use Rattle.vx_mixed.specs.declared.layout.VirtualWord.{VirtualWord as AWord};
 ghost use Rattle.vx_mixed.specs.LaidSettled.{LeadsTo};
-ghost use Rattle.vx_regs.specs.Marks.{Marks, is_marked};
+ghost use Rattle.vx_regs.specs.Marks.{is_marked};
 ghost use Rattle.vx_calls.specs.Framing.{IsFrameOf};
 ghost use Rattle.vx_slots.specs.Seen.{no_frame, no_graph, no_layout, no_map};
-ghost use Rattle.vx_calls.specs.Slots.{FrameStands, Marking, arrays_end, arrays_from, in_slots, joined, slots_end, slots_from};
+ghost use Rattle.vx_calls.specs.Slots.{FrameStands, Marking, MarksJust, arrays_end, arrays_from, in_slots, joined, slots_end, slots_from};
 
 use crate::saves::{Saves, saves_of};
 use std::alloc::Global;
@@ -20,10 +20,11 @@ use vx_regs::map::{Kept, RegMap};
 use vx_slots::program::FunctionFrame;
 
 /// Makes room for the mark of a value.
-#[tactic(auto, using(vx_regs::proofs::Marking::kept_pushed))]
+#[tactic(auto, using(vx_regs::proofs::Marking::kept_pushed, crate::proofs::Marked::only_pushed))]
 fn reach(marks: &mut Vec<bool>, place: usize) -> Result<(), NoMemory>
     ensures room { OnOk result (place < length marks.new.items) }
     ensures kept { OnOk result ((v : ℕ) → is_marked marks.old.items v ≡ true → is_marked marks.new.items v ≡ true) }
+    ensures only { OnOk result ((v : ℕ) → is_marked marks.new.items v ≡ true → is_marked marks.old.items v ≡ true) }
 {
     'grow: while marks.len() <= place {
         marks.push(false)?;
@@ -32,9 +33,9 @@ fn reach(marks: &mut Vec<bool>, place: usize) -> Result<(), NoMemory>
 }
 
 /// Marks a value as one that needs a slot.
-#[tactic(auto, using(vx_regs::proofs::Marking::marks_one))]
+#[tactic(auto, using(crate::proofs::Marked::just_one))]
 fn mark(marks: &mut Vec<bool>, value: Value) -> Result<(), NoMemory>
-    ensures { OnOk result (Marks (value ∷ []) marks.old.items marks.new.items) }
+    ensures { OnOk result (MarksJust (value ∷ []) marks.old.items marks.new.items) }
 {
     let place = value as usize;
     reach(marks, place)?;
@@ -43,7 +44,7 @@ fn mark(marks: &mut Vec<bool>, value: Value) -> Result<(), NoMemory>
 }
 
 fn mark_all(marks: &mut Vec<bool>, values: &[Value]) -> Result<(), NoMemory>
-    ensures { OnOk result (Marks values.now marks.old.items marks.new.items) }
+    ensures { OnOk result (MarksJust values.now marks.old.items marks.new.items) }
 {
     for value in values {
         mark(marks, *value)?;
@@ -52,7 +53,7 @@ fn mark_all(marks: &mut Vec<bool>, values: &[Value]) -> Result<(), NoMemory>
 }
 
 fn mark_saved(marks: &mut Vec<bool>, saved: &[Listed<Value>]) -> Result<(), NoMemory>
-    ensures { OnOk result (Marks (joined saved.now) marks.old.items marks.new.items) }
+    ensures { OnOk result (MarksJust (joined saved.now) marks.old.items marks.new.items) }
 {
     for values in saved {
         mark_all(marks, values.as_slice())?;
@@ -61,7 +62,7 @@ fn mark_saved(marks: &mut Vec<bool>, saved: &[Listed<Value>]) -> Result<(), NoMe
 }
 
 fn mark_slotted(marks: &mut Vec<bool>, kept: &[Kept]) -> Result<(), NoMemory>
-    ensures { OnOk result (Marks (in_slots 0 kept.now) marks.old.items marks.new.items) }
+    ensures { OnOk result (MarksJust (in_slots 0 kept.now) marks.old.items marks.new.items) }
 {
     for (value, kept) in kept.iter().enumerate() {
         if let Kept::InSlot(_) = kept {
@@ -130,7 +131,7 @@ fn needing(
     kept: &[Kept],
     saved: &[Listed<Value>],
 ) -> Result<Vec<bool>, NoMemory>
-    ensures { IfOk result (λ marks. Marks (parameters.now ++ (in_slots 0 kept.now ++ joined saved.now)) [] marks.items) }
+    ensures { IfOk result (λ marks. MarksJust (parameters.now ++ (in_slots 0 kept.now ++ joined saved.now)) [] marks.items) }
 {
     let mut marks = Vec::new(alloc);
     mark_all(&mut marks, parameters)?;
@@ -212,6 +213,7 @@ pub fn frames(
 pub fn frame_size(frames: &[FunctionFrame]) -> u32
     ensures some { 1 ≤ result }
     ensures most { (f : ℕ) → (slice_index_or frames.now f no_frame).words ≤ result }
+    ensures least { (n : ℕ) → 1 ≤ n → ((f : ℕ) → f < length frames.now → (slice_index_or frames.now f no_frame).words ≤ n) → result ≤ n }
 {
     let mut most = 1;
     for frame in frames {

@@ -1,5 +1,6 @@
 pub mod Beginning
 pub mod OneFunction
+pub mod SmallFrames
 pub mod Chain
 pub mod LaidOut
 pub mod NumbersFit

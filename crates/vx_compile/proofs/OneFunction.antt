@@ -1,4 +1,4 @@
--- The layout of a function: its values are those of a sound graph, with their copies to clusters of the machine, so it can be
+-- The layout of a function: its values are those of a sound graph, with their copies to other clusters of the machine, so it can be
 -- finished.
 use Rattle.std.proofs.Common.{◌≡◌, ◌⊎◌, inl, inr, ℕ, suc, ◌<◌, ◌≤◌, Bool, true, false, List, [], ◌∷◌, ◌++◌, length, map, Option, Some, None, refl, sym, ap, ◌∙◌, subst, arith}
 use Rattle.std.specs.Prelude.{◌*◌, ◌/◌, ◌-◌, ◌+◌, slice_get, nat_lt, if◌then◌else◌}
@@ -38,9 +38,9 @@ use Rattle.vx_mixed.specs.LaidSettled.{item_reads, item_writes, or_zero, home_in
 use Rattle.vx_layout.specs.Brief.{LayoutIsBrief, IsBriefLayout}
 use Rattle.vx_layout.specs.Origins.{Parts, CallsAs, LaidFromGraph}
 use Rattle.vx_mixed.specs.Settled.{has_home}
-use Rattle.vx_mixed.specs.Valid.{region_op, names_of}
+use Rattle.vx_mixed.specs.Valid.{IsOp, region_op, names_of}
 use Rattle.vx_layout.proofs.LaidSources.{plain_from, plan_of}
-use Rattle.vx_region.specs.Regions.{item_in, room_in, OnMachine, IsGraphOf}
+use Rattle.vx_region.specs.Regions.{item_in, room_in, IsCopyAway, OnMachine, IsGraphOf}
 use Rattle.vx_region.proofs.ClusteredOps.{value_below}
 use Rattle.vx_regs.specs.Intervals.{word_reads, word_writes, result_of, IsLive, here, beyond, IsBusy, is_live, is_named, is_pending}
 use Rattle.vx_target.specs.Carried.{item_of_laid, room_of}
@@ -96,46 +96,51 @@ module _ (machine : Numbers) (graph : Graph) (latency : Op → ℕ) (m : MixedGr
   abbrev Bound : ℕ
   Bound = (machine.clusters + 1) * length m.banks
 
-  has : (v : ℕ) → v < length graph.banks → v < Bound
-  has v h = value_below (length m.banks) v machine.clusters (subst (λ z. v < length z) (sym banks) h)
+  -- and of copies only those to other clusters than that of the value
+  abbrev Named : ℕ → Type 0
+  Named v = (v < Bound) × (length m.banks ≤ v → IsCopyAway m.banks m.homes.clusters v)
 
-  tested : (test : ℕ) → Parts graph test → test < Bound
+  has : (v : ℕ) → v < length graph.banks → Named v
+  has v h = let lt : v < length m.banks = subst (λ z. v < length z) (sym banks) h in (value_below (length m.banks) v machine.clusters lt, λ le. absurd (omega (arith, lt, le)))
+
+  tested : (test : ℕ) → Parts graph test → Named test
   tested test h = has test (slice_get_within graph.banks test Branch (sound.exit_tests (Branches test h.yes h.no) test h.has (inl refl)))
 
-  op_has : (p cluster v : ℕ) (op : Op) (items : List Laid) → Plans (layout_of m) p items → IsIn (Plain op cluster) items → IsIn v (names_of op) → v < Bound
+  op_has : (p cluster v : ℕ) (op : Op) (items : List Laid) → Plans (layout_of m) p items → IsIn (Plain op cluster) items → IsIn v (names_of op) → Named v
   op_has p cluster v op items plans at names =
       let plan = plan_of latency m p items plans in
       let at' : IsIn (PlainItem op cluster) plan.word = plain_from plan.stands.at plan.word op cluster (subst (λ z. IsIn (Plain op cluster) z) plan.is at) in
-      on.values op v (region_op plan.region plan.number cluster plan.g plan.word plan.has_region plan.has_word at') names
+      let is : IsOp m op = region_op plan.region plan.number cluster plan.g plan.word plan.has_region plan.has_word at' in
+      (on.values op v is names, on.copied_away op v is names)
 
-  item_reads_has : (p v : ℕ) (item : Laid) (items : List Laid) → Plans (layout_of m) p items → IsIn item items → IsIn v (item_reads item) → v < Bound
+  item_reads_has : (p v : ℕ) (item : Laid) (items : List Laid) → Plans (layout_of m) p items → IsIn item items → IsIn v (item_reads item) → Named v
   item_reads_has p v (Plain op cluster) items plans at names = op_has p cluster v op items plans at (in_left v (reads op) (writes op) names)
-  item_reads_has p v (Split test y q) items plans at (inl e) = subst (λ z. z < Bound) (sym e) (tested test (code.splits p test q y items plans at))
+  item_reads_has p v (Split test y q) items plans at (inl e) = subst (λ z. Named z) (sym e) (tested test (code.splits p test q y items plans at))
   item_reads_has p v (Split test y q) items plans at (inr h) = absurd h
 
-  item_writes_has : (p v : ℕ) (item : Laid) (items : List Laid) → Plans (layout_of m) p items → IsIn item items → IsIn v (item_writes item) → v < Bound
+  item_writes_has : (p v : ℕ) (item : Laid) (items : List Laid) → Plans (layout_of m) p items → IsIn item items → IsIn v (item_writes item) → Named v
   item_writes_has p v (Plain op cluster) items plans at names = op_has p cluster v op items plans at (in_right v (reads op) (writes op) names)
   item_writes_has p v (Split test y q) items plans at h = absurd h
 
-  operand_has : (v : ℕ) (x : Operand) → ((u : ℕ) → x ≡ Held u → u < Bound) → IsIn v (value_in x) → v < Bound
-  operand_has v (Held u) h (inl e) = subst (λ z. z < Bound) (sym e) (h u refl)
+  operand_has : (v : ℕ) (x : Operand) → ((u : ℕ) → x ≡ Held u → Named u) → IsIn v (value_in x) → Named v
+  operand_has v (Held u) h (inl e) = subst (λ z. Named z) (sym e) (h u refl)
   operand_has v (Held u) h (inr z) = absurd z
   operand_has v (Number n) h z = absurd z
   operand_has v Stack h z = absurd z
 
-  argument_has : (g : ℕ) (arguments : List Operand) (result : Option ℕ) (x : Operand) (u : ℕ) → CallsAs graph g arguments result → IsIn x arguments → x ≡ Held u → u < Bound
+  argument_has : (g : ℕ) (arguments : List Operand) (result : Option ℕ) (x : Operand) (u : ℕ) → CallsAs graph g arguments result → IsIn x arguments → x ≡ Held u → Named u
   argument_has g arguments result x u calls at is =
       has u (slice_get_within graph.banks u General (sound.exit_operands (Calls g arguments result calls.next) (Held u) calls.has (subst (λ z. IsIn z arguments) is at)))
 
-  result_has : (g v : ℕ) (arguments : List Operand) (result : Option ℕ) → CallsAs graph g arguments result → IsIn v (result_of result) → v < Bound
+  result_has : (g v : ℕ) (arguments : List Operand) (result : Option ℕ) → CallsAs graph g arguments result → IsIn v (result_of result) → Named v
   result_has g v arguments None calls h = absurd h
   result_has g v arguments (Some u) calls h = has v (slice_get_within graph.banks v General (sound.exit_results (Calls g arguments (Some u) calls.next) v calls.has h))
 
-  reads_has : (p v : ℕ) (word : VirtualWord) → slice_get (layout_of m).words p ≡ Some word → IsIn v (word_reads word) → v < Bound
+  reads_has : (p v : ℕ) (word : VirtualWord) → slice_get (layout_of m).words p ≡ Some word → IsIn v (word_reads word) → Named v
   reads_has p v (Planned r w items) e h = let s = in_some item_reads v items h in item_reads_has p v s.0 items (r, w, e) s.1 s.2
   reads_has p v (Drain n) e h = absurd h
   reads_has p v (Transfer q) e h = absurd h
-  reads_has p v (Choice test q) e (inl is) = subst (λ z. z < Bound) (sym is) (tested test (code.choices p test q e))
+  reads_has p v (Choice test q) e (inl is) = subst (λ z. Named z) (sym is) (tested test (code.choices p test q e))
   reads_has p v (Choice test q) e (inr h) = absurd h
   reads_has p v (Call g arguments result) e h =
       let calls = code.calls p g arguments result e in
@@ -146,7 +151,7 @@ module _ (machine : Numbers) (graph : Graph) (latency : Op → ℕ) (m : MixedGr
       operand_has v x (λ u is. has u (slice_get_within graph.banks u General (sound.exit_operands (Returns x) (Held u) at (inl (sym is))))) h
   reads_has p v (Ends k) e h = absurd h
 
-  writes_has : (p v : ℕ) (word : VirtualWord) → slice_get (layout_of m).words p ≡ Some word → IsIn v (word_writes word) → v < Bound
+  writes_has : (p v : ℕ) (word : VirtualWord) → slice_get (layout_of m).words p ≡ Some word → IsIn v (word_writes word) → Named v
   writes_has p v (Planned r w items) e h = let s = in_some item_writes v items h in item_writes_has p v s.0 items (r, w, e) s.1 s.2
   writes_has p v (Drain n) e h = absurd h
   writes_has p v (Transfer q) e h = absurd h
@@ -155,15 +160,15 @@ module _ (machine : Numbers) (graph : Graph) (latency : Op → ℕ) (m : MixedGr
   writes_has p v (Return x) e h = absurd h
   writes_has p v (Ends k) e h = absurd h
 
-  live_has : (p v : ℕ) → IsLive (layout_of m) p v → v < Bound
+  live_has : (p v : ℕ) → IsLive (layout_of m) p v → Named v
   live_has p v (here {word} e h) = reads_has p v word e h
   live_has p v (beyond {q} e h leads live) = live_has q v live
 
-  pending_has : (p v left : ℕ) → Pends latency (layout_of m) p v left → v < Bound
+  pending_has : (p v left : ℕ) → Pends latency (layout_of m) p v left → Named v
   pending_has p v left (written {p = at} {r} {w} {items} op cluster e item writes_it leads) = op_has at cluster v op items (r, w, e) item (in_right v (reads op) (writes op) writes_it)
   pending_has p v left (later {q} at n word pends e leads) = pending_has at v n pends
 
-  pub busy_has : (p v : ℕ) → IsBusy latency (layout_of m) p v → v < Bound
+  pub busy_has : (p v : ℕ) → IsBusy latency (layout_of m) p v → Named v
   busy_has p v (is_live live) = live_has p v live
   busy_has p v (is_named {word} e h) = elim (in_parts v (word_reads word) (word_writes word) h) [
     | inl a ↦ reads_has p v word e a
@@ -206,6 +211,8 @@ pub record Finishable (machine : Numbers) (graph : Graph) (l : VWords) : Type 0 
   pub brief : IsBriefLayout l
   pub code : LaidFromGraph graph l
   pub homes : (p v : ℕ) → IsBusy (latency_of_op machine) l p v → home_in l v < machine.clusters
+  pub values : (v : ℕ) → v < length l.banks → home_in l v < machine.clusters
+  pub copies : (p v : ℕ) → IsBusy (latency_of_op machine) l p v → length l.banks ≤ v → IsCopyAway l.banks l.homes.clusters v
 
 -- from the laws of layouts
 module _ (settles : LayoutSettles) (comes : LayoutComesFromGraph) (is_brief : LayoutIsBrief) where
@@ -219,7 +226,9 @@ module _ (settles : LayoutSettles) (comes : LayoutComesFromGraph) (is_brief : La
         settled = settles m (layout_of m) latency (room_in machine) (room_of machine) some laid (same_room machine) is.settled;
         brief = is_brief m (layout_of m) laid is.brief;
         code = code;
-        homes = λ p v busy. home_is_there machine graph latency m sound is.on is.code.banks code zero_there v (busy_has machine graph latency m sound is.on is.code.banks code p v busy);
+        homes = λ p v busy. home_is_there machine graph latency m sound is.on is.code.banks code zero_there v (busy_has machine graph latency m sound is.on is.code.banks code p v busy).0;
+        values = λ v lt. home_is_there machine graph latency m sound is.on is.code.banks code zero_there v (value_below (length m.banks) v machine.clusters lt);
+        copies = λ p v busy. (busy_has machine graph latency m sound is.on is.code.banks code p v busy).1;
       }
 
   pub finishable : (machine : Numbers) (function : ℕ) (graph : Graph) (l : VWords) → IsMachine machine → IsLayoutOf machine function graph l → Finishable machine graph l

@@ -1,6 +1,6 @@
 -- What holds between the graphs of a program and its words: layouts of the graphs, and maps for the layouts; and the laws by which
 -- each of them does what the one before does.
-use Rattle.std.specs.Prelude.{◌≡◌, ◌<◌, ◌+◌, ℕ, true, List, [], ◌∷◌, length, Some, slice_get}
+use Rattle.std.specs.Prelude.{◌≡◌, ◌<◌, ◌≤◌, ◌+◌, ℕ, true, List, [], ◌∷◌, length, count_by, Some, slice_get}
 use Rattle.vx_base.specs.Outcome.{SameIsTransitive}
 use Rattle.vx_flow.specs.declared.graph.Flow.{Flow}
 use Rattle.vx_flow.specs.declared.graph.Graph.{Graph}
@@ -8,6 +8,7 @@ use Rattle.vx_flow.specs.Sound.{is_sound}
 use Rattle.vx_isa.specs.declared.program.WordProgram.{WordProgram}
 use Rattle.vx_isa.specs.Numbers.{Numbers}
 use Rattle.vx_isa.specs.Paths.{PathStrictLaw, AnyTimingLaw}
+use Rattle.vx_lower.specs.FlowOf.{is_general, is_branch}
 use Rattle.vx_mixed.specs.declared.mixed.MixedGraph.{MixedGraph}
 use Rattle.vx_mixed.specs.declared.layout.VirtualWord.{VirtualWord}
 use Rattle.vx_mixed.specs.declared.layout.VWords.{VWords}
@@ -23,6 +24,8 @@ use Rattle.vx_profile.specs.declared.counts.Counts.{Counts}
 use Rattle.vx_region.specs.declared.trace_plan.TracePlan.{TracePlan}
 use Rattle.vx_region.specs.Regions.{AllReplaced, ReplacesAll}
 use Rattle.vx_target.specs.Carried.{FrameLaw}
+use Rattle.vx_target.specs.Tied.{words_before}
+use Rattle.vx_calls.specs.Bounds.{most_global_words, own_words}
 use Rattle.vx_target.specs.declared.finished.Finished.{Finished}
 use Rattle.vx_target.specs.Finish.{Finishes}
 use Rattle.vx_tie.specs.PlanLaws.{EmittedLaw}
@@ -39,6 +42,17 @@ pub record Begins (graph : Graph) : Type 0 where
 
 abbrev pub AllBegin : List Graph → Type 0
 AllBegin graphs = (f : ℕ) (graph : Graph) → slice_get graphs f ≡ Some graph → Begins graph
+
+-- the graph of a function of an accepted program has so few values, and arrays of so few words behind the globals
+pub record IsSmallGraph (globals : ℕ) (graph : Graph) : Type 0 where
+  pub general : count_by is_general graph.banks ≤ 12000
+  pub branch : count_by is_branch graph.banks ≤ 8000
+  pub arrays : own_words globals graph.arrays ≤ 8192
+
+-- and its globals so few words
+pub record IsSmall (flow : Flow) : Type 0 where
+  pub globals : words_before flow.globals (length flow.globals) ≤ most_global_words
+  pub graphs : (f : ℕ) (graph : Graph) → slice_get flow.functions f ≡ Some graph → IsSmallGraph (length flow.globals) graph
 
 -- the layout of regions that took the place of all blocks of a graph, that of the function with this number
 pub record IsLayoutOf (machine : Numbers) (function : ℕ) (graph : Graph) (l : VWords) : Type 0 where

@@ -9,7 +9,7 @@ ghost use Rattle.vx_flow.specs.Sound.{is_sound_flow};
 ghost use Rattle.vx_lower.specs.FlowOf.{FlowOf};
 ghost use Rattle.vx_compiled.specs.Compiled.{AreMapsOf, Compiled, all_in_slots, in_slots, slot_of};
 ghost use Rattle.vx_compiled.specs.CompiledWith.{CompiledFrom, CompiledWith};
-ghost use Rattle.vx_compile.specs.Stages.{AllBegin, AreFinished, AreInside, AreLayoutsOf, IsCompiledFlow, StageLaws};
+ghost use Rattle.vx_compile.specs.Stages.{AllBegin, AreFinished, AreInside, AreLayoutsOf, IsCompiledFlow, IsSmall, StageLaws};
 ghost use Rattle.vx_compiled.specs.Sized.{Sized, all_blocks};
 
 use crate::graphs::{planned_flow_of, planned_with};
@@ -142,6 +142,7 @@ fn finished_of(
     machine: &Machine,
 ) -> Result<FinishedProgram, NoMemory>
     requires sound { is_sound_flow flow.now ≡ true }
+    requires small { IsSmall flow.now }
     requires layouts { AreLayoutsOf machine.now flow.now.functions layouts.now }
     ensures { IfOk result (λ x. AreFinished machine.now flow.now layouts.now x.finished x.spilled) }
 {
@@ -163,6 +164,7 @@ fn compiled_of(
     growth: u32,
 ) -> Result<CompiledProgram, NoMemory>
     requires sound { is_sound_flow flow.now ≡ true }
+    requires small { IsSmall flow.now }
     requires begin { AllBegin flow.now.functions }
     ensures { IfOk result (λ x. IsCompiledFlow machine.now counts.now growth flow.now x.words x.plan) }
 {

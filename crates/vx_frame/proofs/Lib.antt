@@ -5,5 +5,6 @@ pub mod RegionPlaces
 pub mod PlaceRows
 pub mod SplitRows
 pub mod Assembled
+pub mod SmallFrames
 pub mod SeenSaves
 pub mod Shorter

@@ -12,6 +12,7 @@ use Rattle.vx_target.specs.Placed.{IsPlaced}
 use Rattle.vx_target.specs.Frames.{first_or_zero}
 use Rattle.vx_target.specs.Tied.{words_before}
 use Rattle.vx_target.specs.Finish.{AllCanFinish}
+use Rattle.vx_calls.specs.Bounds.{most_frame_words, most_global_words}
 use Rattle.vx_calls.specs.Framing.{IsFrameOf}
 use Rattle.vx_frame.specs.Placing.{standing}
 use Rattle.vx_slots.specs.Seen.{no_graph, no_layout, no_map, no_frame, seen}
@@ -28,6 +29,8 @@ pub record Found (W : Whole) (flow : Flow) : Type 0 where
   pub as_many : length addresses ≡ length flow.globals
   pub address : (a : ℕ) → a < length flow.globals → slice_index_or addresses a 0 ≡ words_before flow.globals a
   pub globals : W.sizes.globals ≡ words_before flow.globals (length flow.globals)
+  pub few_globals : W.sizes.globals ≤ most_global_words
+  pub small_frame : W.sizes.frame ≤ most_frame_words
 
 -- the program has the version of the machine's branches and that memory, the globals stand in it at the start, and its words stand
 -- where they were placed

@@ -4,6 +4,7 @@
 ghost use Rattle.std.specs.Prelude.{◌≡◌, ◌<◌, ◌≤◌, ℕ, true, [], IfOk, length};
 ghost use Rattle.vx_flow.specs.Sound.{is_sound_flow};
 ghost use Rattle.vx_target.specs.Finish.{AllCanFinish, Finishes};
+ghost use Rattle.vx_calls.specs.Bounds.{FitsMemory, most_frame_words, most_global_words};
 ghost use Rattle.vx_frame.specs.Found.{Found, Made};
 ghost use Rattle.vx_target.specs.Placed.{IsPlaced};
 ghost use Rattle.vx_frame.specs.Placing.{WaysDiffer, all_places, functions_begin, standing};
@@ -39,6 +40,8 @@ fn copied_texts(alloc: Global, texts: &[Bytes]) -> Result<Listed<Bytes>, NoMemor
 
 /// The program of a whole of which all but the words and their places are found, and the places of its regions.
 fn program_of(alloc: Global, whole: &Whole, flow: &Flow) -> Result<Finished, NoMemory>
+    requires globals { whole.now.sizes.globals ≤ most_global_words }
+    requires frame { whole.now.sizes.frame ≤ most_frame_words }
     requires differ { (f : ℕ) → f < length flow.now.functions → WaysDiffer ((seen whole.now).layout f).words }
     requires no_more { (f : ℕ) → length flow.now.functions ≤ f → ((seen whole.now).layout f).words ≡ [] }
     ensures made { IfOk result (λ x. Made whole.now flow.now x.program) }
@@ -59,10 +62,12 @@ fn program_with(
     flow: &Flow,
     words: Listed<Word>,
 ) -> Result<WordProgram, NoMemory>
-    requires { IsPlaced (standing (seen whole.now) flow.now.main (length flow.now.functions)) flow.now.main (length flow.now.functions) words }
+    requires globals { whole.now.sizes.globals ≤ most_global_words }
+    requires frame { whole.now.sizes.frame ≤ most_frame_words }
+    requires placed { IsPlaced (standing (seen whole.now) flow.now.main (length flow.now.functions)) flow.now.main (length flow.now.functions) words }
     ensures { IfOk result (λ program. Made whole.now flow.now program) }
 {
-    let memory = memory_bytes(&whole.sizes)?;
+    let memory = memory_bytes(&whole.sizes);
     let start = first_words(alloc, flow.globals.as_slice())?;
     let texts = copied_texts(alloc, flow.texts.as_slice())?;
     let version = whole.machine.branches();
@@ -87,8 +92,8 @@ fn finish_whole(alloc: Global, whole: &Whole, flow: &Flow) -> Result<Finished, N
 
 /// The words of a program, where its functions are laid out like this, and their values are kept where these maps say: they
 /// carry the layouts, a word text can spell them, and the program's version is the number of the machine's branches. With them
-/// come the places of the words of all regions: each region of each function has its list, also one that has no words. A memory of
-/// more than 132,644,864 bytes is want of memory, and so are words or frames that no list holds.
+/// come the places of the words of all regions: each region of each function has its list, also one that has no words. Globals and
+/// frames are within their bounds, so that the memory is; words that no list holds are want of memory.
 pub fn finish(
     alloc: Global,
     code: &[VWords],
@@ -98,6 +103,7 @@ pub fn finish(
 ) -> Result<Finished, NoMemory>
     requires sound { is_sound_flow flow.now ≡ true }
     requires functions { AllCanFinish machine.now flow.now code.now maps.now }
+    requires fits { FitsMemory flow.now code.now maps.now }
     ensures { IfOk result (λ x. Finishes machine.now flow.now code.now maps.now x) }
 {
     machine.keeps_ranges();

@@ -158,6 +158,7 @@ begins_on with_code machine graph m f works sound_test from = record {
     bound = λ op v h e. bound_first graph m sound_test from op v (named_below graph sound_test op v (has graph m sound_test from op (op_of m f op h)) (in_right v (reads op) (writes op) (binds_written op v e))) (has graph m sound_test from op (op_of m f op h)) e;
     values = λ op v h i. value_below (length m.banks) v machine.clusters (banks_below op v (has graph m sound_test from op (op_of m f op h)) i);
     copies = λ op u h i. inl (banks_below op u (has graph m sound_test from op (op_of m f op h)) (in_right u (reads op) (writes op) i));
+    copied_away = λ op v h i le. absurd (let l = banks_below op v (has graph m sound_test from op (op_of m f op h)) i in omega (arith, l, le));
     tidy = begins_tidy graph (numbered m f) sound_test (still_of m f graph from.blocks);
     made = λ b i cluster block origin op at o. absurd (no_origin b origin o);
     facts = still_facts m f (made_begins graph m from);

@@ -1,9 +1,9 @@
 -- What is known of the operations of a clustered trace: where they come from, what they name, and that they stand where their
 -- values do.
 use Rattle.std.proofs.Common.{◌≡◌, ◌≢◌, ◌⊎◌, inl, inr, refl, sym, ◌∙◌, ap, subst, arith, Bool, true, false, ℕ, suc, ◌+◌, ◌*◌, ◌<◌, ◌≤◌, Option, Some, List, [], ◌∷◌, ◌++◌, length, slice_get, slice_index_or}
-use Rattle.std.specs.Prelude.{◌%◌, ◌/◌, ◌-◌, if◌then◌else◌}
+use Rattle.std.specs.Prelude.{◌%◌, ◌/◌, ◌-◌, if◌then◌else◌, None, not}
 use Rattle.std.proofs.Math.Nat.{mod-eq_of_lt, mul_comm, mul-add-mod_self_right, mul-le-mul_right}
-use Rattle.std.proofs.lemmas.Bool.{lt-ltb, le-ltb, cases_lt}
+use Rattle.std.proofs.lemmas.Bool.{lt-ltb, le-ltb, cases_lt, eq-eqb}
 use Rattle.std.proofs.lemmas.Nat.{div-mul-add, mul-add-lt}
 use Rattle.vx_base.specs.declared.arithmetic.Code.{Code}
 use Rattle.vx_base.specs.declared.arithmetic.Code.TheVariants.{Add, Sub, And, Or, Xor, Shl, Shr, Shru, Sh2add, Max, Min, Mov, ToGeneral, ToBranch, Mpylu, Mpyhs, Div, Rem}
@@ -40,7 +40,7 @@ use Rattle.vx_bug.specs.Copies.{copy_of, is_away, here, renamed, renamed_op}
 use Rattle.vx_bug.proofs.Best.{four_clusters}
 use Rattle.vx_region.specs.AtHome.{IsAtHome, CopiesAtHome, StandsFor, copies, stays, renames, StandsWell, AllStand}
 use Rattle.vx_region.proofs.Fresh.{InPlace, renamed_read, renamed_writes}
-use Rattle.vx_region.specs.Regions.{IsGraphOf}
+use Rattle.vx_region.specs.Regions.{IsCopyAway, IsGraphOf}
 use Rattle.vx_region.proofs.Assignable.{names_below}
 use Rattle.vx_region.proofs.PlanOps.{is_op}
 use Rattle.vx_region.proofs.SoundOps.{Known, known, read_kind}
@@ -70,6 +70,15 @@ copy_home n v k lt = let e : copy_of n v k / n ≡ k + 1 = div-mul-add (k + 1) n
 
 pub behind_values : (n v k : ℕ) → n ≤ copy_of n v k
 behind_values n v k = let e : copy_of n v k ≡ k * n + n + v = omega arith in omega (arith, e)
+
+-- a value that stands on another cluster has a home there
+away_home : (o : Option ℕ) (k : ℕ) → is_away o k ≡ true → (h : ℕ) × (o ≡ Some h) × (h ≢ k)
+away_home (Some h) k e = (h, refl, λ q. let z : false ≡ true = ap not (sym (eq-eqb h k q)) ∙ e in cc)
+away_home None k e = absurd (cc)
+
+-- homes that stay leave a copy away
+pub still_away : (banks : List Bank) (homes homes' : List (Option ℕ)) (v : ℕ) → ((u k : ℕ) → has_home homes u ≡ Some k → has_home homes' u ≡ Some k) → IsCopyAway banks homes v → IsCopyAway banks homes' v
+still_away banks homes homes' v stay a = record { value = a.value; cluster = a.cluster; home = a.home; number = a.number; bank = a.bank; has = stay a.value a.home a.has; other = a.other }
 
 -- the home that a value has in the list is the one where it stands
 pub stands_home : (m : MixedGraph) → CopiesAtHome (length m.banks) (has_home m.homes.clusters) → (v k : ℕ) → has_home m.homes.clusters v ≡ Some k → home_in m v ≡ Some k
@@ -316,6 +325,7 @@ module _ (machine : Numbers) (graph : Graph) (m : MixedGraph) (blocks : List ℕ
       pub comes : ComesFrom graph op
       pub below : (v : ℕ) → IsIn v (names_of op) → v < (machine.clusters + 1) * N
       pub away : (v u : ℕ) → op ≡ Across v u → AwayFrom m r.homes.clusters v u
+      pub copies_away : (v : ℕ) → IsIn v (names_of op) → N ≤ v → IsCopyAway m.banks r.homes.clusters v
 
     away_of_old : IsOp m op → (v u : ℕ) → op ≡ Across v u → AwayFrom m r.homes.clusters v u
     away_of_old o v u e =
@@ -324,7 +334,7 @@ module _ (machine : Numbers) (graph : Graph) (m : MixedGraph) (blocks : List ℕ
         record { is_copy = valid.copied v u across; value = a.0; home = a.1; has = S.homes_stay u a.1 a.2; other = a.3 }
 
     old : IsOp m op → Facts
-    old o = record { comes = G.code.ops op o; below = λ v h. G.on.values op v o h; away = away_of_old o }
+    old o = record { comes = G.code.ops op o; below = λ v h. G.on.values op v o h; away = away_of_old o; copies_away = λ v h le. still_away m.banks m.homes.clusters r.homes.clusters v S.homes_stay (G.on.copied_away op v o h le) }
 
     copying : (v : ℕ) → v < N → slice_get graph.banks v ≡ Some General → (home : ℕ) → has_home r.homes.clusters v ≡ Some home → home ≢ k → op ≡ Across (copy_of t.values v k) v → Facts
     copying v lt bank home has other e =
@@ -333,8 +343,14 @@ module _ (machine : Numbers) (graph : Graph) (m : MixedGraph) (blocks : List ℕ
           comes = subst (ComesFrom graph) (sym (is_op ∙ ap (λ n. Across (copy_of n v k) v) (sym graph_many) ∙ ap (λ z. Across z v) (sym (one_more k (length graph.banks) v)))) (copy {u = v} {k = k} bank (let f = four_clusters machine works in omega (arith, there, f)));
           below = λ w h. below_of w (subst (λ o. IsIn w (names_of o)) is_op h);
           away = λ w u q. away_of w u (sym is_op ∙ q);
+          copies_away = λ w h le. copy_away w (subst (λ o. IsIn w (names_of o)) is_op h) le;
         }
       where
+        copy_away : (w : ℕ) → IsIn w (names_of (Across (copy_of N v k) v)) → N ≤ w → IsCopyAway m.banks r.homes.clusters w
+        copy_away w (inl q) le = absurd (omega (arith, q, lt, le))
+        copy_away w (inr (inl q)) le = record { value = v; cluster = k; home = home; number = q; bank = ap (λ bs. slice_get bs v) G.code.banks ∙ bank; has = has; other = other }
+        copy_away w (inr (inr h)) le = absurd h
+
         below_of : (w : ℕ) → IsIn w (names_of (Across (copy_of N v k) v)) → w < (machine.clusters + 1) * N
         below_of w (inl q) = subst (λ z. z < (machine.clusters + 1) * N) (sym q) (value_below N v machine.clusters lt)
         below_of w (inr (inl q)) = subst (λ z. z < (machine.clusters + 1) * N) (sym q) (copy_below N v k machine.clusters lt there)
@@ -363,6 +379,10 @@ module _ (machine : Numbers) (graph : Graph) (m : MixedGraph) (blocks : List ℕ
       comes = comes_of o (G.code.ops o (of_trace i o at)) e;
       below = below_of;
       away = λ v u q. absurd (no_copy v u (renamed_across (here t.values Last k) o v u (sym q ∙ e)));
+      copies_away = λ v h le. elim (in_either v (reads op) (writes op) h) [
+        | inl a ↦ read_away v le (renamed_read to (TracePlain o) v (subst (λ z. IsIn v (reads z)) e a))
+        | inr b ↦ let lt : v < N = named v (in_right v (reads o) (writes o) (subst (IsIn v) (ap writes e ∙ renamed_writes to (TracePlain o)) b)) in absurd (omega (arith, lt, le))
+      ];
     }
       where
         to : ℕ → ℕ
@@ -383,6 +403,31 @@ module _ (machine : Numbers) (graph : Graph) (m : MixedGraph) (blocks : List ℕ
             by : (b : Bool) → (if b then copy_of t.values v k else v) < (machine.clusters + 1) * N
             by true = subst (λ n. copy_of n v k < (machine.clusters + 1) * N) (sym many) (copy_below N v k machine.clusters lt there)
             by false = value_below N v machine.clusters lt
+
+        to_away : (u : ℕ) → u < N → slice_get graph.banks u ≡ Some General → N ≤ to u → IsCopyAway m.banks r.homes.clusters (to u)
+        to_away u lt bank = by (is_away (Last u) k) refl
+          where
+            by : (b : Bool) → is_away (Last u) k ≡ b → N ≤ (if b then copy_of t.values u k else u) → IsCopyAway m.banks r.homes.clusters (if b then copy_of t.values u k else u)
+            by true q le =
+                let a = away_home (Last u) k q in
+                record {
+                  value = u;
+                  cluster = k;
+                  home = a.0;
+                  number = ap (λ n. copy_of n u k) many;
+                  bank = ap (λ bs. slice_get bs u) G.code.banks ∙ bank;
+                  has = A.homes_of_values u (subst (λ n. u < n) (sym many) lt) ∙ a.1;
+                  other = a.2;
+                }
+            by false q le = absurd (omega (arith, lt, le))
+
+        read_away : (v : ℕ) → N ≤ v → InPlace to (general_reads (TracePlain o)) v ⊎ IsIn v (reads o) → IsCopyAway m.banks r.homes.clusters v
+        read_away v le (inl p) =
+            let lt : p.value < N = named p.value (in_left p.value (reads o) (writes o) (general_read (TracePlain o) p.value p.is_read)) in
+            let knows : Known graph o = known graph sound o (G.code.ops o (of_trace i o at)) in
+            let bank : slice_get graph.banks p.value ≡ Some General = ap (slice_get graph.banks) (sym (mod-eq_of_lt (subst (λ n. p.value < n) (sym graph_many) lt))) ∙ knows.operands p.value p.is_read in
+            subst (IsCopyAway m.banks r.homes.clusters) (sym p.is) (to_away p.value lt bank (subst (λ z. N ≤ z) p.is le))
+        read_away v le (inr h) = let lt : v < N = named v (in_left v (reads o) (writes o) h) in absurd (omega (arith, lt, le))
 
         below_of : (v : ℕ) → IsIn v (names_of op) → v < (machine.clusters + 1) * N
         below_of v h = elim (in_either v (reads op) (writes op) h) [
@@ -433,6 +478,9 @@ module _ (machine : Numbers) (graph : Graph) (m : MixedGraph) (blocks : List ℕ
 
     pub op_below : (v : ℕ) → IsIn v (names_of op) → v < (machine.clusters + 1) * N
     op_below = facts.below
+
+    pub op_copies_away : (v : ℕ) → IsIn v (names_of op) → N ≤ v → IsCopyAway m.banks r.homes.clusters v
+    op_copies_away = facts.copies_away
 
     pub op_away : (v u : ℕ) → op ≡ Across v u → AwayFrom m r.homes.clusters v u
     op_away = facts.away

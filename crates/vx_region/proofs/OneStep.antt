@@ -50,9 +50,9 @@ use Rattle.vx_motion.proofs.MadeBlocks.{made_stays}
 use Rattle.vx_region.specs.Planned.{placed_in, replacement_of, Planned}
 use Rattle.vx_region.specs.PlanLaws.{PlanKeeps}
 use Rattle.vx_region.specs.Regions.{room_in, OnMachine, IsGraphOf, FitsIn}
-use Rattle.vx_region.proofs.ClusteredOps.{op_comes}
+use Rattle.vx_region.proofs.ClusteredOps.{op_comes, still_away}
 use Rattle.vx_region.proofs.PlanOps.{Comes, comes_has}
-use Rattle.vx_region.proofs.PlansFit.{index_low, copied, traced, made_comes, op_of_made, made_below, made_at_home, made_there, made_stands, in_region, can_replace, parts_of, plan_law, plans_fit}
+use Rattle.vx_region.proofs.PlansFit.{index_low, copied, traced, made_comes, op_of_made, made_below, made_copies_away, made_at_home, made_there, made_stands, in_region, can_replace, parts_of, plan_law, plans_fit}
 use Rattle.vx_region.proofs.RoomHomes.{is_room}
 use Rattle.vx_region.proofs.ShortDrains.{drain_low, mapped_low}
 use Rattle.vx_region.proofs.SoundOps.{reads_dismissed}
@@ -178,6 +178,10 @@ module _ (machine : Numbers) (graph : Graph) (m : MixedGraph) (t : Trace) (k : C
       ];
       values = λ op v h i. elim (kinds op h) [ inl o ↦ G.on.values op v o i | inr x ↦ made_below machine graph m t k words works valid G can is A S F op x.0 x.1 v i ];
       copies = λ op u h i. elim (kinds op h) [ inl o ↦ G.on.copies op u o i | inr x ↦ copies_of op x.0 x.1 u i ];
+      copied_away = λ op v h i le. elim (kinds op h) [
+        | inl o ↦ still_away m.banks m.homes.clusters k.homes.clusters v S.homes_stay (G.on.copied_away op v o i le)
+        | inr x ↦ made_copies_away machine graph m t k words works valid G can is A S F op x.0 x.1 v i le
+      ];
       tidy = tidy;
       made = made_still;
       facts = made_stays m R valid fits G.on.facts;

@@ -51,9 +51,9 @@ use Rattle.vx_region.specs.Ways.{ClusteredFits}
 use Rattle.vx_region.proofs.FromValid.{assigned_trace_fits}
 use Rattle.vx_region.specs.Planned.{placed_in, replacement_of, Planned}
 use Rattle.vx_region.specs.PlanLaws.{PlanLaw}
-use Rattle.vx_region.specs.Regions.{room_in, IsGraphOf, FitsIn, PlansFit}
+use Rattle.vx_region.specs.Regions.{IsCopyAway, room_in, IsGraphOf, FitsIn, PlansFit}
 use Rattle.vx_region.proofs.Assignable.{bound_at_home, fixed_at_home, fixed_reads_here, clusters_are_there, values_are_there, across_of_values, is_well_formed}
-use Rattle.vx_region.proofs.ClusteredOps.{all_copies, stands, dismissed_at_home, op_below, op_away, op_at_home, op_there, op_known}
+use Rattle.vx_region.proofs.ClusteredOps.{all_copies, stands, dismissed_at_home, op_below, op_copies_away, op_away, op_at_home, op_there, op_known}
 use Rattle.vx_region.proofs.Formed.{splits_many}
 use Rattle.vx_region.proofs.PlainItems.{some_at}
 use Rattle.vx_region.proofs.PlanOps.{Comes, comes_placed, placed_there, MadeFrom, made_from, tests_branch}
@@ -189,6 +189,11 @@ module _ (machine : Numbers) (graph : Graph) (m : MixedGraph) (t : Trace) (k : C
     made_below = either (λ o. (v : ℕ) → IsIn v (names_of o) → v < (machine.clusters + 1) * Banks)
         (λ o q v h. q v (subst (IsIn v) (ap (λ z. z ++ writes (dismissed o)) (reads_dismissed o) ∙ ap (λ z. reads o ++ z) (writes_dismissed o)) h))
         (op_below machine graph m C.trace.blocks t k works valid G can is A S c.place c.origin c.at)
+
+    pub made_copies_away : (v : ℕ) → IsIn v (names_of op) → Banks ≤ v → IsCopyAway m.banks k.homes.clusters v
+    made_copies_away = either (λ o. (v : ℕ) → IsIn v (names_of o) → Banks ≤ v → IsCopyAway m.banks k.homes.clusters v)
+        (λ o q v h le. q v (subst (IsIn v) (ap (λ z. z ++ writes (dismissed o)) (reads_dismissed o) ∙ ap (λ z. reads o ++ z) (writes_dismissed o)) h) le)
+        (op_copies_away machine graph m C.trace.blocks t k works valid G can is A S c.place c.origin c.at)
 
     pub made_arrays : (a : ℕ) → IsIn a (arrays_of op) → a < length graph.arrays
     made_arrays = either (λ o. (a : ℕ) → IsIn a (arrays_of o) → a < length graph.arrays) (λ o q a h. q a (subst (IsIn a) (arrays_dismissed o) h)) ((op_known machine graph m C.trace.blocks t k works valid G can is A S c.place c.origin c.at).arrays)

@@ -1,5 +1,7 @@
 -- Traces that become regions one after the other, picked by counts, on the clusters of the machine, until no block is left.
-use Rattle.std.specs.Prelude.{◌≡◌, ◌<◌, ◌≤◌, ◌+◌, ◌*◌, true, ℕ, Bool, Option, Some, List, [], ◌∷◌, length, map, slice_get}
+use Rattle.std.specs.Prelude.{◌≡◌, ◌≢◌, ◌<◌, ◌≤◌, ◌+◌, ◌*◌, true, ℕ, Bool, Option, Some, List, [], ◌∷◌, length, map, slice_get}
+use Rattle.vx_flow.specs.declared.graph.Bank.{Bank}
+use Rattle.vx_flow.specs.declared.graph.Bank.TheVariants.{General}
 use Rattle.vx_flow.specs.declared.graph.Block.{Block}
 use Rattle.vx_flow.specs.declared.graph.Graph.{Graph}
 use Rattle.vx_flow.specs.declared.graph.Op.{Op}
@@ -36,6 +38,7 @@ use Rattle.vx_dep.specs.declared.mode.Mode.{Mode}
 use Rattle.vx_dep.specs.Compensation.{at_splits_of, at_joins_of}
 use Rattle.vx_bug.specs.declared.clusters.Clusters.{Clusters}
 use Rattle.vx_bug.specs.Assigned.{Assigned}
+use Rattle.vx_bug.specs.Copies.{copy_of}
 use Rattle.vx_region.specs.AtHome.{IsAtHome, CopiesAtHome}
 use Rattle.vx_region.specs.Ways.{CopiesAreCopies}
 use Rattle.vx_profile.specs.declared.counts.Counts.{Counts}
@@ -59,6 +62,16 @@ room_in m clusters word = has_room m (record { clusters = clusters }) (map item_
 
 -- clusters
 
+-- the number of the copy of a general value to another cluster than its home
+pub record IsCopyAway (banks : List Bank) (homes : List (Option ℕ)) (v : ℕ) : Type 0 where
+  pub value : ℕ
+  pub cluster : ℕ
+  pub home : ℕ
+  pub number : v ≡ copy_of (length banks) value cluster
+  pub bank : slice_get banks value ≡ Some General
+  pub has : has_home homes value ≡ Some home
+  pub other : home ≢ cluster
+
 pub record OnMachine (machine : Numbers) (m : MixedGraph) : Type 0 where
   -- homes are clusters of the machine, that of a copy the one to which it is copied; what is bound to cluster 0 has its home there
   pub homes : (v k : ℕ) → has_home m.homes.clusters v ≡ Some k → k < machine.clusters
@@ -67,6 +80,8 @@ pub record OnMachine (machine : Numbers) (m : MixedGraph) : Type 0 where
   -- values are named, and copies of them to clusters of the machine; what writes the number of a copy copies its value
   pub values : (op : Op) (v : ℕ) → IsOp m op → IsIn v (names_of op) → v < (machine.clusters + 1) * length m.banks
   pub copies : CopiesAreCopies m
+  -- no other copies are named than those of general values to other clusters than their homes
+  pub copied_away : (op : Op) (v : ℕ) → IsOp m op → IsIn v (names_of op) → length m.banks ≤ v → IsCopyAway m.banks m.homes.clusters v
   pub tidy : Tidy m
   -- what was copied onto an edge keeps its cluster, where its values are; the block there goes on to another
   pub made : (b i cluster : ℕ) (block : Block) (origin : Origin) (op : Op) → slice_get m.nodes b ≡ Some (Unused block) → slice_get m.origins b ≡ Some (Some origin) → slice_get block.ops i ≡ Some op → slice_get origin.clusters i ≡ Some cluster →

@@ -1,11 +1,14 @@
 -- Each stage does what the one before it does, so the words do what the program does.
 use Rattle.vx_ast.specs.View.{program_of}
-use Rattle.vx_compile.proofs.Beginning.{all_begin}
+use Rattle.vx_compile.proofs.Beginning.{all_begin, all_small}
 use Rattle.vx_compile.proofs.Chain.{compiled_from}
 use Rattle.vx_compile.proofs.words.compile_flow.Goals as goal
 
 pub compiled_of-requires-clause-begin : goal.compiled_of-requires-clause-begin
 compiled_of-requires-clause-begin c = all_begin (program_of c.args.program.now.program) c.args.flow.now c.args.program.now.accepted c.requires
+
+pub compiled_of-requires-clause-small : goal.compiled_of-requires-clause-small
+compiled_of-requires-clause-small c = all_small (program_of c.args.program.now.program) c.args.flow.now c.args.program.now.accepted c.requires
 
 pub compiled_of-requires-clause-sound : goal.compiled_of-requires-clause-sound
 compiled_of-requires-clause-sound c = c.requires.sound

@@ -13,6 +13,9 @@ finished_of-requires-clause-layouts c =
     subst (λ z. AreLaidOut c.args.machine.now c.args.counts.now c.args.growth z laid.traces laid.layouts laid.copies) c.as_slice.ensures c.in_ok-laid.ensures in
     subst (AreLayoutsOf c.args.machine.now c.args.flow.now.functions) (sym c.as_slice-2.ensures) made.laid
 
+pub finished_of-requires-clause-small : goal.finished_of-requires-clause-small
+finished_of-requires-clause-small c = c.requires.small
+
 pub returns : goal.returns
 returns c =
     let machine = c.args.machine.now in

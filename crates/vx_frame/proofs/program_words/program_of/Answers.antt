@@ -6,8 +6,8 @@ use Rattle.vx_frame.specs.Placing.{all_places, functions_begin, standing}
 use Rattle.vx_frame.specs.Regions.{all_traces}
 use Rattle.vx_frame.proofs.program_words.program_of.Goals as goal
 
-pub program_with-requires : goal.program_with-requires
-program_with-requires c =
+pub program_with-requires-clause-placed : goal.program_with-requires-clause-placed
+program_with-requires-clause-placed c =
     let main = c.args.flow.now.main in
     subst (λ n. IsPlaced (standing (seen c.args.whole.now) main n) main n c.in_ok-pieces.pieces.words) c.len-functions.ensures.len c.in_ok-pieces.ensures.placed
 
