@@ -4,13 +4,14 @@ use Rattle.std.proofs.lemmas.Bool.{cases_lt}
 use Rattle.std.proofs.lemmas.Option.{slice_get-get_or, slice_get_within}
 use Rattle.vx_flow.specs.declared.graph.Operand.{Operand}
 use Rattle.vx_flow.specs.declared.graph.Operand.TheVariants.{Held, Number, Stack}
-use Rattle.vx_flow.specs.declared.graph.Op.TheVariants.{Compute, Select, Place, Load, Store, More, Input, Text, Decimal, Across, Base, PlaceIn}
+use Rattle.vx_flow.specs.declared.graph.Op.TheVariants.{Compute, Select, Store, Across, PlaceIn}
 use Rattle.vx_flow.specs.declared.trace.TraceOp.{TraceOp}
 use Rattle.vx_flow.specs.declared.trace.TraceOp.TheVariants.{Plain, Split}
 use Rattle.vx_flow.specs.declared.trace.Join.{Join}
 use Rattle.vx_flow.specs.declared.trace.Trace.{Trace}
 use Rattle.vx_flow.specs.declared.trace.Clustered.{Clustered}
 use Rattle.vx_flow.specs.Effects.{IsIn, is_unary, value_in}
+use Rattle.vx_flow.specs.Operands.{first_operand}
 use Rattle.vx_dep.specs.Delays.{Stands}
 use Rattle.vx_bug.specs.Clusters.{general_reads}
 use Rattle.vx_bug.specs.Copies.{Standing, across}
@@ -43,16 +44,10 @@ few_reads : (op : TraceOp) → length (general_reads op) ≤ 2
 few_reads (Split test leaves_when edge live) = omega arith
 few_reads (Plain (Compute code v a b)) = computed_few a b (is_unary code)
 few_reads (Plain (Select v test a b)) = two_values a b
-few_reads (Plain (Place v a i)) = one_is_few i
-few_reads (Plain (Load v a p dismissible)) = one_is_few p
 few_reads (Plain (Store a p x)) = two_values p x
-few_reads (Plain (More v)) = omega arith
-few_reads (Plain (Input v)) = omega arith
-few_reads (Plain (Text n)) = omega arith
-few_reads (Plain (Decimal x)) = one_is_few x
 few_reads (Plain (Across v u)) = omega arith
-few_reads (Plain (Base v a x)) = omega arith
 few_reads (Plain (PlaceIn v a u i)) = two_values i (Held u)
+few_reads (Plain op) = one_is_few (first_operand op)
 
 is_first : (values : List ℕ) (v w : ℕ) → length values ≤ 2 → ReadBefore v w values → slice_get values 0 ≡ Some v
 is_first values v w few r =

@@ -4,13 +4,13 @@ use Rattle.std.proofs.Common.{◌≡◌, ◌<◌, inl, inr, refl, sym, ◌∙◌
 use Rattle.vx_base.specs.declared.arithmetic.Code.{Code}
 use Rattle.vx_flow.specs.declared.graph.Operand.{Operand}
 use Rattle.vx_flow.specs.declared.graph.Operand.TheVariants.{Held, Number, Stack}
-use Rattle.vx_flow.specs.declared.graph.Op.TheVariants.{Compute, Select, Place, Load, Store, More, Input, Text, Decimal, Across, Base, PlaceIn}
+use Rattle.vx_flow.specs.declared.graph.Op.TheVariants.{Compute, Select, Store, Across, PlaceIn}
 use Rattle.vx_flow.specs.declared.trace.TraceOp.{TraceOp}
 use Rattle.vx_flow.specs.declared.trace.TraceOp.TheVariants.{Plain, Split}
 use Rattle.vx_flow.specs.declared.trace.Trace.{Trace}
 use Rattle.vx_flow.specs.declared.trace.Clustered.{Clustered}
 use Rattle.vx_flow.specs.Effects.{IsIn, is_unary, value_in}
-use Rattle.vx_flow.specs.Operands.{with_value_in}
+use Rattle.vx_flow.specs.Operands.{with_value_in, first_operand, second_operand, with_two}
 use Rattle.vx_room.specs.Room.{home_of}
 use Rattle.vx_dep.specs.Delays.{Stands, reads_of}
 use Rattle.vx_bug.specs.Clusters.{general_reads}
@@ -28,17 +28,7 @@ use Rattle.vx_copy_laws.proofs.Standing.{copies_law}
 general_in : (op : TraceOp) (x : ℕ) → IsIn x (general_reads op) → IsIn x (reads_of op)
 general_in (Split test leaves_when edge live) x h = absurd h
 general_in (Plain (Select v test a b)) x h = inr h
-general_in (Plain (Compute code v a b)) x h = h
-general_in (Plain (Place v a i)) x h = h
-general_in (Plain (Load v a p dismissible)) x h = h
-general_in (Plain (Store a p y)) x h = h
-general_in (Plain (More v)) x h = h
-general_in (Plain (Input v)) x h = h
-general_in (Plain (Text n)) x h = h
-general_in (Plain (Decimal y)) x h = h
-general_in (Plain (Across v u)) x h = h
-general_in (Plain (Base v a y)) x h = h
-general_in (Plain (PlaceIn v a u i)) x h = h
+general_in (Plain op) x h = h
 
 -- an operation with other operands, by functions that agree on what it reads
 
@@ -62,18 +52,12 @@ module _ (f g : ℕ → ℕ) where
   same_renamed (Split test leaves_when edge live) e = refl
   same_renamed (Plain (Compute code v a b)) e = ap Plain (same_computed code v a b (is_unary code) refl e)
   same_renamed (Plain (Select v test a b)) e = ap Plain (same_two (λ x y. Select v test x y) a b e)
-  same_renamed (Plain (Place v a i)) e = ap (λ x. Plain (Place v a x)) (same_operand i e)
-  same_renamed (Plain (Load v a p dismissible)) e = ap (λ x. Plain (Load v a x dismissible)) (same_operand p e)
   same_renamed (Plain (Store a p y)) e = ap Plain (same_two (λ x z. Store a x z) p y e)
-  same_renamed (Plain (More v)) e = refl
-  same_renamed (Plain (Input v)) e = refl
-  same_renamed (Plain (Text n)) e = refl
-  same_renamed (Plain (Decimal y)) e = ap (λ x. Plain (Decimal x)) (same_operand y e)
   same_renamed (Plain (Across v u)) e = refl
-  same_renamed (Plain (Base v a y)) e = refl
   same_renamed (Plain (PlaceIn v a u i)) e =
       ap (λ x. Plain (PlaceIn v a x (with_value_in f i))) (e u (append_in_right u (value_in i) (u ∷ []) (inl refl)))
       ∙ ap (λ x. Plain (PlaceIn v a (g u) x)) (same_operand i (λ v k. e v (append_in_left v (value_in i) (u ∷ []) k)))
+  same_renamed (Plain op) e = ap (λ x. Plain (with_two op x (second_operand op))) (same_operand (first_operand op) e)
 
 -- homes that agree
 

@@ -3,7 +3,7 @@
 use Rattle.std.proofs.Common.{◌≡◌, ◌<◌, ◌≤◌, ◌+◌, ◌⊎◌, inl, inr, ⊎_elim, ◌||◌, not, refl, sym, ◌∙◌, ap, arith, subst, Bool, true, false, nat_eq, if◌then◌else◌, ℕ, Option, Some, None, List, [], ◌∷◌, ◌++◌, slice_get, slice_index_or}
 use Rattle.std.specs.List.{list_any}
 use Rattle.std.proofs.lemmas.Bool.{eqb-true, eq-eqb, true≢false, cases_lt}
-use Rattle.vx_flow.specs.declared.graph.Op.TheVariants.{Compute, Select, Place, Load, Store, More, Input, Text, Decimal, Across, Base, PlaceIn}
+use Rattle.vx_flow.specs.declared.graph.Op.TheVariants.{Across}
 use Rattle.vx_flow.specs.declared.trace.TraceOp.{TraceOp}
 use Rattle.vx_flow.specs.declared.trace.TraceOp.TheVariants.{Plain, Split}
 use Rattle.vx_flow.specs.declared.trace.Join.{Join}
@@ -80,18 +80,8 @@ is_elsewhere homes v k home f other = ap (λ h. is_away h k) f ∙ by (nat_eq ho
 
 pub none_reads : (op : TraceOp) → is_across op ≡ false → reads_copies None op ≡ true
 none_reads (Split test leaves_when edge live) e = refl
-none_reads (Plain (Compute code v a b)) e = refl
-none_reads (Plain (Select v test a b)) e = refl
-none_reads (Plain (Place v a i)) e = refl
-none_reads (Plain (Load v a p dismissible)) e = refl
-none_reads (Plain (Store a p x)) e = refl
-none_reads (Plain (More v)) e = refl
-none_reads (Plain (Input v)) e = refl
-none_reads (Plain (Text n)) e = refl
-none_reads (Plain (Decimal x)) e = refl
 none_reads (Plain (Across v u)) e = absurd cc
-none_reads (Plain (Base v a x)) e = refl
-none_reads (Plain (PlaceIn v a u i)) e = refl
+none_reads (Plain op) e = refl
 
 -- the operation at a place with its cluster, and whether copies are made for it
 

@@ -9,7 +9,7 @@ use Rattle.vx_flow.specs.declared.graph.Operand.{Operand}
 use Rattle.vx_flow.specs.declared.graph.Operand.TheVariants.{Held, Number, Stack}
 use Rattle.vx_flow.specs.declared.graph.Op.{Op}
 use Rattle.vx_flow.specs.declared.graph.Op.TheVariants.{Compute, Select, Place, Load, Store, More, Input, Text, Decimal, Across, Base, PlaceIn}
-use Rattle.vx_flow.specs.Effects.{Content, State, Setting, IsIn, held, is_unary, both, computed, is_one, chosen, place_of, place_by, row_of, cell_in, is_left, text_at, with_value, with_cell, loaded, stored, next_input, printed, effect, value_in, reads, writes}
+use Rattle.vx_flow.specs.Effects.{Content, State, Setting, IsIn, held, is_unary, both, computed, is_one, chosen, place_of, place_by, row_of, cell_in, is_left, text_at, with_value, with_cell, loaded, stored, next_input, printed, effect, value_in, reads, writes, ReadsBesides, TheInput}
 use Rattle.vx_flow.specs.Meaning.{with_front, known}
 use Rattle.vx_flow.specs.Agree.{SameWorld, Agree}
 use Rattle.vx_flow.proofs.Members.{in_left, in_right}
@@ -150,17 +150,33 @@ printed_done lives s t s' xs ys (Some n) y w k q r e =
 
 -- operations
 
+-- what an operation writes that writes one value and does nothing else: it is made of what the operation reads
+abbrev pub content : Setting → State → Op → Content
+content setting s (Compute code v a b) = computed code (held s a) (held s b)
+content setting s (Select v p a b) = chosen (s.values p) (held s a) (held s b)
+content setting s (Place v a i) = place_of (held s i)
+content setting s (More v) = Some (one_if (is_left s.input))
+content setting s (Across v u) = s.values u
+content setting s (Base v a x) = Some (pos (setting.spot a))
+content setting s (PlaceIn v a u i) = place_by (s.values u) (held s i)
+content setting s op = None
+
+-- of a load, a store, a reading of the input and a printing this says nothing
+pub content_refined : (setting : Setting) (op : Op) (s t : State) → Knows (reads op) s t → (ReadsBesides setting s op TheInput → t.input ≡ s.input) → Refined (content setting s op) (content setting t op)
+content_refined setting (Compute code v a b) s t k i = computed_refined (is_unary code) (value_of code) s t a b k
+content_refined setting (Select v p a b) s t k i =
+    chosen_refined (s.values p) (t.values p) (held s a) (held s b) (held t a) (held t b) (k p (inl refl))
+    (held_refined s t a (λ u m. k u (inr (in_left u (value_in a) (value_in b) m))))
+    (held_refined s t b (λ u m. k u (inr (in_right u (value_in a) (value_in b) m))))
+content_refined setting (Place v a x) s t k i = place_refined (held s x) (held t x) (held_refined s t x k)
+content_refined setting (More v) s t k i = λ n f. ap (λ z. Some (one_if (is_left z))) (i refl) ∙ f
+content_refined setting (Across v u) s t k i = k u (inl refl)
+content_refined setting (PlaceIn v a u x) s t k i =
+    place_by_refined (s.values u) (t.values u) (held s x) (held t x) (knows_right (value_in x) (u ∷ []) s t k u (inl refl)) (held_refined s t x (knows_left (value_in x) (u ∷ []) s t k))
+content_refined setting op s t k i = λ n f. f
+
 pub effect_alike : (lives : ℕ → Type 0) (setting : Setting) (op : Op) (s t s0 t0 s' : State) → SameWorld s t → SameWorld s0 t0 → Knows (reads op) s t → KnowsOthers lives (writes op) s0 t0 →
     effect setting s op s0 ≡ Some s' → Done lives s' (effect setting t op t0)
-effect_alike lives setting (Compute code v a b) s t s0 t0 s' w w0 k o e =
-    value_done lives s0 t0 s' v (computed code (held s a) (held s b)) (computed code (held t a) (held t b)) w0 o (computed_refined (is_unary code) (value_of code) s t a b k) e
-effect_alike lives setting (Select v p a b) s t s0 t0 s' w w0 k o e =
-    value_done lives s0 t0 s' v (chosen (s.values p) (held s a) (held s b)) (chosen (t.values p) (held t a) (held t b)) w0 o
-    (chosen_refined (s.values p) (t.values p) (held s a) (held s b) (held t a) (held t b) (k p (inl refl))
-    (held_refined s t a (λ u m. k u (inr (in_left u (value_in a) (value_in b) m))))
-    (held_refined s t b (λ u m. k u (inr (in_right u (value_in a) (value_in b) m))))) e
-effect_alike lives setting (Place v a i) s t s0 t0 s' w w0 k o e =
-    value_done lives s0 t0 s' v (place_of (held s i)) (place_of (held t i)) w0 o (place_refined (held s i) (held t i) (held_refined s t i k)) e
 effect_alike lives setting (Load v a p dismissible) s t s0 t0 s' w w0 k o e =
     let row : List Content = row_of s (setting.spot a) in
     let rows : row_of t (setting.spot a) ≡ row = ap (λ r. slice_index_or r (setting.spot a) []) w.arrays in
@@ -173,17 +189,10 @@ effect_alike lives setting (Store a p x) s t s0 t0 s' w w0 k o e =
     (stored_done lives s0 t0 s' (setting.spot a) (cell_in (length row) (held s p)) (cell_in (length row) (held t p)) (held s x) (held t x) w0 o
     (cell_refined (length row) (held s p) (held t p) (held_refined s t p (knows_left (value_in p) (value_in x) s t k)))
     (held_refined s t x (knows_right (value_in p) (value_in x) s t k)) e)
-effect_alike lives setting (More v) s t s0 t0 s' w w0 k o e =
-    value_done lives s0 t0 s' v (Some (one_if (is_left s.input))) (Some (one_if (is_left t.input))) w0 o (λ n f. ap (λ i. Some (one_if (is_left i))) w.input ∙ f) e
 effect_alike lives setting (Input v) s t s0 t0 s' w w0 k o e = input_done lives s0 t0 s' v s.input t.input w0 o w.input e
 effect_alike lives setting (Text n) s t s0 t0 s' w w0 k o e = out_done lives s0 t0 s' (s.out ++ text_at setting n) (t.out ++ text_at setting n) w0 o (ap (λ p. p ++ text_at setting n) w.out) e
 effect_alike lives setting (Decimal x) s t s0 t0 s' w w0 k o e = printed_done lives s0 t0 s' s.out t.out (held s x) (held t x) w0 o w.out (held_refined s t x k) e
-effect_alike lives setting (Across v u) s t s0 t0 s' w w0 k o e = value_done lives s0 t0 s' v (s.values u) (t.values u) w0 o (k u (inl refl)) e
-effect_alike lives setting (Base v a x) s t s0 t0 s' w w0 k o e =
-    value_done lives s0 t0 s' v (Some (pos (setting.spot a))) (Some (pos (setting.spot a))) w0 o (λ n f. f) e
-effect_alike lives setting (PlaceIn v a u i) s t s0 t0 s' w w0 k o e =
-    value_done lives s0 t0 s' v (place_by (s.values u) (held s i)) (place_by (t.values u) (held t i)) w0 o
-    (place_by_refined (s.values u) (t.values u) (held s i) (held t i) (knows_right (value_in i) (u ∷ []) s t k u (inl refl)) (held_refined s t i (knows_left (value_in i) (u ∷ []) s t k))) e
+effect_alike lives setting op s t s0 t0 s' w w0 k o e = value_done lives s0 t0 s' _ (content setting s op) (content setting t op) w0 o (content_refined setting op s t k (λ r. w.input)) e
 
 -- what is known of some operands, in both
 

@@ -2,17 +2,17 @@
 use Rattle.std.proofs.Common.{◌≡◌, inl, inr, ℕ, refl, sym, ◌∙◌, ap, append_assoc, Bool, true, false, if◌then◌else◌, Option, Some, None, List, [], ◌∷◌, ◌++◌}
 use Rattle.std.proofs.lemmas.List.{map-append}
 use Rattle.vx_base.specs.declared.arithmetic.Code.{Code}
-use Rattle.vx_base.specs.declared.arithmetic.Code.TheVariants.{Add, Sub, And, Or, Xor, Shl, Shr, Shru, Sh2add, Max, Min, Mov, ToGeneral, ToBranch, Mpylu, Mpyhs, Div, Rem}
+use Rattle.vx_base.specs.declared.arithmetic.Code.TheVariants.{Add, Mov}
 use Rattle.vx_flow.specs.declared.graph.Operand.{Operand}
 use Rattle.vx_flow.specs.declared.graph.Operand.TheVariants.{Held, Number, Stack}
 use Rattle.vx_flow.specs.declared.graph.Op.{Op}
-use Rattle.vx_flow.specs.declared.graph.Op.TheVariants.{Compute, Select, Place, Load, Store, More, Input, Text, Decimal, Across, Base, PlaceIn}
+use Rattle.vx_flow.specs.declared.graph.Op.TheVariants.{Compute, Select, Store, Across, PlaceIn}
 use Rattle.vx_flow.specs.declared.operands.Reads.{Reads}
 use Rattle.vx_flow.specs.declared.routes.Touch.{Touch}
 use Rattle.vx_flow.specs.Effects.{IsIn, is_unary, value_in, reads, writes}
 use Rattle.vx_flow.specs.Sound.{operands_of}
 use Rattle.vx_flow.specs.Live.{touch, reading, writing}
-use Rattle.vx_flow.specs.Operands.{written_by, held_by, reads_three, read_by, value_list, values_read}
+use Rattle.vx_flow.specs.Operands.{written_by, held_by, reads_three, read_by, value_list, values_read, first_operand}
 
 pub held_is : (x : Operand) → value_list (held_by x) ≡ value_in x
 held_is (Held v) = refl
@@ -47,30 +47,14 @@ placed_read Stack u = refl
 pub reads_are : (op : Op) → values_read (read_by op) ≡ reads op
 reads_are (Compute code v a b) = computed_read (is_unary code) a b
 reads_are (Select v p a b) = ap (λ vs. p ∷ vs) (both_held a b)
-reads_are (Place v a i) = one_read i
-reads_are (Load v a p dismissible) = one_read p
 reads_are (Store a p x) = two_read p x
-reads_are (More v) = refl
-reads_are (Input v) = refl
-reads_are (Text n) = refl
-reads_are (Decimal x) = one_read x
 reads_are (Across v u) = refl
-reads_are (Base v a x) = refl
 reads_are (PlaceIn v a u i) = placed_read i u
+reads_are op = one_read (first_operand op)
 
 pub writes_are : (op : Op) → value_list (written_by op) ≡ writes op
 writes_are (Compute code v a b) = refl
-writes_are (Select v p a b) = refl
-writes_are (Place v a i) = refl
-writes_are (Load v a p dismissible) = refl
-writes_are (Store a p x) = refl
-writes_are (More v) = refl
-writes_are (Input v) = refl
-writes_are (Text n) = refl
-writes_are (Decimal x) = refl
-writes_are (Across v u) = refl
-writes_are (Base v a x) = refl
-writes_are (PlaceIn v a u i) = refl
+writes_are op = refl
 
 -- what a call answers about an operation, as lists
 
@@ -116,40 +100,8 @@ reads_touched op r old one two new e p q s =
 
 pub first_operand_in : (code : Code) (v : ℕ) (a b : Operand) → IsIn a (operands_of (Compute code v a b))
 first_operand_in Add v a b = inl refl
-first_operand_in Sub v a b = inl refl
-first_operand_in And v a b = inl refl
-first_operand_in Or v a b = inl refl
-first_operand_in Xor v a b = inl refl
-first_operand_in Shl v a b = inl refl
-first_operand_in Shr v a b = inl refl
-first_operand_in Shru v a b = inl refl
-first_operand_in Sh2add v a b = inl refl
-first_operand_in Max v a b = inl refl
-first_operand_in Min v a b = inl refl
-first_operand_in Mov v a b = inl refl
-first_operand_in (ToGeneral c) v a b = inl refl
-first_operand_in (ToBranch c) v a b = inl refl
-first_operand_in Mpylu v a b = inl refl
-first_operand_in Mpyhs v a b = inl refl
-first_operand_in Div v a b = inl refl
-first_operand_in Rem v a b = inl refl
+first_operand_in code v a b = inl refl
 
 pub second_operand_in : (code : Code) (v : ℕ) (a b : Operand) → is_unary code ≡ false → IsIn b (operands_of (Compute code v a b))
-second_operand_in Add v a b e = inr (inl refl)
-second_operand_in Sub v a b e = inr (inl refl)
-second_operand_in And v a b e = inr (inl refl)
-second_operand_in Or v a b e = inr (inl refl)
-second_operand_in Xor v a b e = inr (inl refl)
-second_operand_in Shl v a b e = inr (inl refl)
-second_operand_in Shr v a b e = inr (inl refl)
-second_operand_in Shru v a b e = inr (inl refl)
-second_operand_in Sh2add v a b e = inr (inl refl)
-second_operand_in Max v a b e = inr (inl refl)
-second_operand_in Min v a b e = inr (inl refl)
 second_operand_in Mov v a b e = absurd (cc)
-second_operand_in (ToGeneral c) v a b e = inr (inl refl)
-second_operand_in (ToBranch c) v a b e = inr (inl refl)
-second_operand_in Mpylu v a b e = inr (inl refl)
-second_operand_in Mpyhs v a b e = inr (inl refl)
-second_operand_in Div v a b e = inr (inl refl)
-second_operand_in Rem v a b e = inr (inl refl)
+second_operand_in code v a b e = inr (inl refl)

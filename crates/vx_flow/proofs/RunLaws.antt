@@ -5,7 +5,7 @@ use Rattle.vx_base.specs.Outcome.{Outcome, Begins, Steady, Step, On, Over, outpu
 use Rattle.vx_base.proofs.Same.{begins_self, begins_on}
 use Rattle.vx_base.proofs.Runs.{Grows, run_steady}
 use Rattle.vx_flow.specs.declared.graph.Op.{Op}
-use Rattle.vx_flow.specs.declared.graph.Op.TheVariants.{Compute, Select, Place, Load, Store, More, Input, Text, Decimal, Across, Base, PlaceIn}
+use Rattle.vx_flow.specs.declared.graph.Op.TheVariants.{Load, Store, Input, Text, Decimal}
 use Rattle.vx_flow.specs.declared.graph.Exit.{Exit}
 use Rattle.vx_flow.specs.declared.graph.Exit.TheVariants.{Goto, Split, Call, Return, Ends}
 use Rattle.vx_flow.specs.declared.graph.Block.{Block}
@@ -42,18 +42,12 @@ printed_keeps t None = tt
 printed_keeps t (Some n) = longer t.out (signed_decimal n)
 
 effect_keeps : (setting : Setting) (s : State) (op : Op) → Keeps s.out (effect setting s op s)
-effect_keeps setting s (Compute code v a b) = begins_self s.out
-effect_keeps setting s (Select v p a b) = begins_self s.out
-effect_keeps setting s (Place v a i) = begins_self s.out
 effect_keeps setting s (Load v a p d) = loaded_keeps s v _ _ d
 effect_keeps setting s (Store a p x) = stored_keeps s _ _ (held s x)
-effect_keeps setting s (More v) = begins_self s.out
 effect_keeps setting s (Input v) = input_keeps s v s.input
 effect_keeps setting s (Text n) = longer s.out (text_at setting n)
 effect_keeps setting s (Decimal x) = printed_keeps s (held s x)
-effect_keeps setting s (Across v u) = begins_self s.out
-effect_keeps setting s (Base v a x) = begins_self s.out
-effect_keeps setting s (PlaceIn v a u i) = begins_self s.out
+effect_keeps setting s op = begins_self s.out
 
 abbrev HopKeeps : List ℕ → Hop → Type 0
 HopKeeps out (Arrives from to t) = Begins out t.out

@@ -42,18 +42,15 @@ base_reads v (Select u p x y) h (inr m) =
 base_reads v (Place u b i) h m = absurd (unheld v i (and_parts _ _ h).1 (read_is v i m))
 base_reads v (Load u b p dismissible) h m = absurd (unheld v p (and_parts _ _ h).1 (read_is v p m))
 base_reads v (Store b p x) h m = let (a, c) = and_parts _ _ h in absurd (none_of v p x a c m)
-base_reads v (More u) h m = absurd m
-base_reads v (Input u) h m = absurd m
-base_reads v (Text n) h m = absurd m
 base_reads v (Decimal x) h m = absurd (unheld v x h (read_is v x m))
 base_reads v (Across u w) h m = absurd (writes_other v w (and_parts _ _ h).1 m)
-base_reads v (Base u b x) h m = absurd m
 base_reads v (PlaceIn u b w i) h m =
     let apart : i ≡ Held v → ⊥ = unheld v i (and_parts _ _ h).1 in
     elim (in_either v (value_in i) (w ∷ []) m) [
       | inl k ↦ absurd (apart (read_is v i k))
       | inr k ↦ (u, b, i, ap (λ t. PlaceIn u b t i) (sym (in_one v w k)), apart)
     ]
+base_reads v op h m = absurd m
 
 pub base_writes : (v : ℕ) (op : Op) → keeps_base v op ≡ true → IsIn v (writes op) → WrittenAsBase v op
 base_writes v (Compute code u x y) h m =
@@ -63,16 +60,13 @@ base_writes v (Select u p x y) h m =
     let (abc, d) = and_parts _ _ h in
     let (ab, c) = and_parts _ _ abc in
     absurd (writes_other v u (and_parts _ _ ab).0 m)
-base_writes v (Place u b i) h m = absurd (writes_other v u (and_parts _ _ h).0 m)
-base_writes v (Load u b p dismissible) h m = absurd (writes_other v u (and_parts _ _ h).0 m)
 base_writes v (Store b p x) h m = absurd m
 base_writes v (More u) h m = absurd (writes_other v u h m)
 base_writes v (Input u) h m = absurd (writes_other v u h m)
 base_writes v (Text n) h m = absurd m
 base_writes v (Decimal x) h m = absurd m
-base_writes v (Across u w) h m = absurd (writes_other v u (and_parts _ _ h).0 m)
 base_writes v (Base u b x) h m = (b, x, ap (λ t. Base t b x) (sym (in_one v u m)))
-base_writes v (PlaceIn u b w i) h m = absurd (writes_other v u (and_parts _ _ h).0 m)
+base_writes v op h m = absurd (writes_other v _ (and_parts _ _ h).0 m)
 
 -- ---- and back
 

@@ -7,7 +7,7 @@ use Rattle.std.specs.Prelude.{not}
 use Rattle.vx_flow.specs.declared.graph.Operand.{Operand}
 use Rattle.vx_flow.specs.declared.graph.Operand.TheVariants.{Held, Number, Stack}
 use Rattle.vx_flow.specs.declared.graph.Op.{Op}
-use Rattle.vx_flow.specs.declared.graph.Op.TheVariants.{Compute, Select, Place, Load, Store, More, Input, Text, Decimal, Across, Base, PlaceIn}
+use Rattle.vx_flow.specs.declared.graph.Op.TheVariants.{Text, Base}
 use Rattle.vx_flow.specs.declared.graph.Exit.{Exit}
 use Rattle.vx_flow.specs.declared.graph.Exit.TheVariants.{Goto, Split, Call, Return, Ends}
 use Rattle.vx_flow.specs.declared.graph.Block.{Block}
@@ -54,17 +54,7 @@ given_base_of g v b =
 
 made_base : (v : ℕ) (op : Op) → makes_base v op ≡ true → (a : ℕ) × (x : Operand) × (op ≡ Base v a x)
 made_base v (Base u a x) h = (a, x, ap (λ w. Base w a x) (eqb-true u v h))
-made_base v (Compute code u x y) h = absurd (false≢true h)
-made_base v (Select u p x y) h = absurd (false≢true h)
-made_base v (Place u b i) h = absurd (false≢true h)
-made_base v (Load u b p dismissible) h = absurd (false≢true h)
-made_base v (Store b p x) h = absurd (false≢true h)
-made_base v (More u) h = absurd (false≢true h)
-made_base v (Input u) h = absurd (false≢true h)
-made_base v (Text n) h = absurd (false≢true h)
-made_base v (Decimal x) h = absurd (false≢true h)
-made_base v (Across u w) h = absurd (false≢true h)
-made_base v (PlaceIn u b w i) h = absurd (false≢true h)
+made_base v op h = absurd (false≢true h)
 
 pub tested_base : (g : Graph) (v : ℕ) → is_base g v ≡ true → IsBase g v
 tested_base g v h = elim (or_parts (is_given_base g v) (list_any (λ block. list_any (makes_base v) block.ops) g.blocks) h) [
@@ -161,17 +151,7 @@ call_of flow g (Ends t) k = refl
 
 pub text_of : (flow : Flow) (op : Op) → ((n : ℕ) → op ≡ Text n → n < length flow.texts) → is_text_there flow op ≡ true
 text_of flow (Text n) k = lt-ltb n (length flow.texts) (k n refl)
-text_of flow (Compute code u x y) k = refl
-text_of flow (Select u p x y) k = refl
-text_of flow (Place u b i) k = refl
-text_of flow (Load u b p dismissible) k = refl
-text_of flow (Store b p x) k = refl
-text_of flow (More u) k = refl
-text_of flow (Input u) k = refl
-text_of flow (Decimal x) k = refl
-text_of flow (Across u w) k = refl
-text_of flow (Base u a x) k = refl
-text_of flow (PlaceIn u b w i) k = refl
+text_of flow op k = refl
 
 -- globals
 

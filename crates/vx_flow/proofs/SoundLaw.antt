@@ -9,7 +9,7 @@ use Rattle.vx_flow.specs.declared.graph.Operand.{Operand}
 use Rattle.vx_flow.specs.declared.graph.Operand.TheVariants.{Held, Number, Stack}
 use Rattle.vx_flow.specs.declared.graph.Bank.TheVariants.{General, Branch}
 use Rattle.vx_flow.specs.declared.graph.Op.{Op}
-use Rattle.vx_flow.specs.declared.graph.Op.TheVariants.{Compute, Select, Place, Load, Store, More, Input, Text, Decimal, Across, Base, PlaceIn}
+use Rattle.vx_flow.specs.declared.graph.Op.TheVariants.{Compute, Place, Load, Store, Across, Base, PlaceIn}
 use Rattle.vx_flow.specs.declared.graph.Exit.{Exit}
 use Rattle.vx_flow.specs.declared.graph.Exit.TheVariants.{Goto, Split, Call, Return, Ends}
 use Rattle.vx_flow.specs.declared.graph.Block.{Block}
@@ -60,16 +60,7 @@ place_in v a (Place u b i) h =
 place_in v a (PlaceIn u b w i) h =
     let (k, l) = and_parts (u == v) (b == a) h in
     subst (λ x. MakesPlace v a (PlaceIn x b w i)) (sym (eqb-true u v k)) (subst (λ c. MakesPlace v a (PlaceIn v c w i)) (sym (eqb-true b a l)) by_base)
-place_in v a (Compute code u x y) h = absurd (false≢true h)
-place_in v a (Select u p x y) h = absurd (false≢true h)
-place_in v a (Load u b p dismissible) h = absurd (false≢true h)
-place_in v a (Store b p x) h = absurd (false≢true h)
-place_in v a (More u) h = absurd (false≢true h)
-place_in v a (Input u) h = absurd (false≢true h)
-place_in v a (Text n) h = absurd (false≢true h)
-place_in v a (Decimal x) h = absurd (false≢true h)
-place_in v a (Across u w) h = absurd (false≢true h)
-place_in v a (Base u b x) h = absurd (false≢true h)
+place_in v a op h = absurd (false≢true h)
 
 place_in_of : (v a : ℕ) (op : Op) → MakesPlace v a op → is_place_in v a op ≡ true
 place_in_of v a op by_itself = both_true (eq-eqb v v refl) (eq-eqb a a refl)

@@ -88,15 +88,11 @@ operands_are g (Load v a p dismissible) x h m = one_operand g p x (operand_is g 
 operands_are g (Store a p y) x h m =
     let (ab, c) = and_parts _ _ h in
     two_operands g p y x (operand_is g p (and_parts _ _ ab).1) (operand_is g y c) m
-operands_are g (More v) x h m = absurd m
-operands_are g (Input v) x h m = absurd m
-operands_are g (Text n) x h m = absurd m
 operands_are g (Decimal y) x h m = one_operand g y x (operand_is g y h) m
-operands_are g (Across v u) x h m = absurd m
-operands_are g (Base v a y) x h m = absurd m
 operands_are g (PlaceIn v a u i) x h m =
     let (abc, d) = and_parts _ _ h in
     two_operands g i (Held u) x (operand_is g i d) (general_is g u (and_parts _ _ abc).1) m
+operands_are g op x h m = absurd m
 
 compute_result : (g : Graph) (code : Code) (v : ℕ) (a b : Operand) → is_written g.banks code v ≡ true → Has g v (bank_written (Compute code v a b))
 compute_result g (ToBranch compare) v a b h = branch_is g v h
@@ -119,41 +115,27 @@ results_are g (Place u a i) v h m =
 results_are g (Load u a p dismissible) v h m =
     let (ab, c) = and_parts _ _ h in
     written_is g General u v (general_is g u (and_parts _ _ ab).0) m
-results_are g (Store a p y) v h m = absurd m
 results_are g (More u) v h m = written_is g General u v (general_is g u h) m
 results_are g (Input u) v h m = written_is g General u v (general_is g u h) m
-results_are g (Text n) v h m = absurd m
-results_are g (Decimal y) v h m = absurd m
 results_are g (Across u w) v h m = absurd (false≢true h)
 results_are g (Base u a x) v h m = written_is g General u v (general_is g u (and_parts _ _ h).0) m
 results_are g (PlaceIn u a w i) v h m =
     let (abc, d) = and_parts _ _ h in
     let (ab, c) = and_parts _ _ abc in
     written_is g General u v (general_is g u (and_parts _ _ ab).0) m
+results_are g op v h m = absurd m
 
 pub tests_are : (g : Graph) (op : Op) (v : ℕ) → is_sound_operation g.banks (length g.arrays) op ≡ true → IsIn v (tests_of op) → Has g v Branch
-tests_are g (Compute code u a b) v h m = absurd m
 tests_are g (Select u p a b) v h m =
     let (abc, d) = and_parts _ _ h in
     let (ab, c) = and_parts _ _ abc in
     written_is g Branch p v (branch_is g p (and_parts _ _ ab).1) m
-tests_are g (Place u a i) v h m = absurd m
-tests_are g (Load u a p dismissible) v h m = absurd m
-tests_are g (Store a p y) v h m = absurd m
-tests_are g (More u) v h m = absurd m
-tests_are g (Input u) v h m = absurd m
-tests_are g (Text n) v h m = absurd m
-tests_are g (Decimal y) v h m = absurd m
-tests_are g (Across u w) v h m = absurd m
-tests_are g (Base u a x) v h m = absurd m
-tests_are g (PlaceIn u a w i) v h m = absurd m
+tests_are g op v h m = absurd m
 
 array_is : (n a b : ℕ) → nat_lt a n ≡ true → IsIn b (a ∷ []) → b < n
 array_is n a b h m = subst (λ c. c < n) (sym (in_one b a m)) (ltb-true a n h)
 
 pub arrays_are : (g : Graph) (op : Op) (a : ℕ) → is_sound_operation g.banks (length g.arrays) op ≡ true → IsIn a (arrays_of op) → a < length g.arrays
-arrays_are g (Compute code u x y) a h m = absurd m
-arrays_are g (Select u p x y) a h m = absurd m
 arrays_are g (Place u b i) a h m =
     let (ab, c) = and_parts _ _ h in
     array_is (length g.arrays) b a (and_parts _ _ ab).1 m
@@ -163,16 +145,12 @@ arrays_are g (Load u b p dismissible) a h m =
 arrays_are g (Store b p y) a h m =
     let (ab, c) = and_parts _ _ h in
     array_is (length g.arrays) b a (and_parts _ _ ab).0 m
-arrays_are g (More u) a h m = absurd m
-arrays_are g (Input u) a h m = absurd m
-arrays_are g (Text n) a h m = absurd m
-arrays_are g (Decimal y) a h m = absurd m
-arrays_are g (Across u w) a h m = absurd m
 arrays_are g (Base u b x) a h m = array_is (length g.arrays) b a (and_parts _ _ h).1 m
 arrays_are g (PlaceIn u b w i) a h m =
     let (abc, d) = and_parts _ _ h in
     let (ab, c) = and_parts _ _ abc in
     array_is (length g.arrays) b a (and_parts _ _ ab).1 m
+arrays_are g op a h m = absurd m
 
 -- what is to be shown of an operation by itself
 pub record Named (g : Graph) (op : Op) : Type 0 where

@@ -84,12 +84,8 @@ keeps_reads v a (Store b p x) h m =
       | inl k ↦ as_store v a b p x (read_is v p k) (same_array v a b p ab (read_is v p k)) (unheld v x c)
       | inr k ↦ absurd (unheld v x c (read_is v x k))
     ]
-keeps_reads v a (More u) h m = absurd m
-keeps_reads v a (Input u) h m = absurd m
-keeps_reads v a (Text n) h m = absurd m
 keeps_reads v a (Decimal x) h m = absurd (unheld v x h (read_is v x m))
 keeps_reads v a (Across u w) h m = absurd (writes_other v w (and_parts _ _ h).1 m)
-keeps_reads v a (Base u b x) h m = absurd m
 keeps_reads v a (PlaceIn u b w i) h m =
     let (ab, c) = and_parts _ _ h in
     let (x, y) = and_parts _ _ ab in
@@ -97,6 +93,7 @@ keeps_reads v a (PlaceIn u b w i) h m =
       | inl k ↦ absurd (unheld v i y (read_is v i k))
       | inr k ↦ absurd (writes_other v w c k)
     ]
+keeps_reads v a op h m = absurd m
 
 by_place : (v a u b : ℕ) (i : Operand) → v ≡ u → b ≡ a → MakesPlace v a (Place u b i)
 by_place v a u b i e f = subst (λ w. MakesPlace v a (Place w b i)) e (subst (λ c. MakesPlace v a (Place v c i)) (sym f) by_itself)
@@ -119,11 +116,8 @@ keeps_writes v a (Place u b i) h m =
       | inr k ↦ by_place v a u b i e (eqb-true b a k)
     ]
 keeps_writes v a (Load u b p dismissible) h m = absurd (writes_other v u (and_parts _ _ h).0 m)
-keeps_writes v a (Store b p x) h m = absurd m
 keeps_writes v a (More u) h m = absurd (writes_other v u h m)
 keeps_writes v a (Input u) h m = absurd (writes_other v u h m)
-keeps_writes v a (Text n) h m = absurd m
-keeps_writes v a (Decimal x) h m = absurd m
 keeps_writes v a (Across u w) h m = absurd (writes_other v u (and_parts _ _ h).0 m)
 keeps_writes v a (Base u b x) h m = absurd (writes_other v u h m)
 keeps_writes v a (PlaceIn u b w i) h m =
@@ -133,6 +127,7 @@ keeps_writes v a (PlaceIn u b w i) h m =
       | inl k ↦ absurd (differs u v k (sym e))
       | inr k ↦ by_place_in v a u b w i e (eqb-true b a k)
     ]
+keeps_writes v a op h m = absurd m
 
 -- and back
 
@@ -199,14 +194,12 @@ keeps_of v a (Load u b p dismissible) w r =
 keeps_of v a (Store b p x) w r = both_true
     (place_of_same v a b p (λ e. store_array a b (Held v) p x (r (in_left v (value_in p) (value_in x) (read_of v p e))).access))
     (unheld_of v x (stored_place v a b p x (λ e. r (in_right v (value_in p) (value_in x) (read_of v x e)))))
-keeps_of v a (More u) w r = unwritten v a u (More u) w (λ n. elim n [ ])
-keeps_of v a (Input u) w r = unwritten v a u (Input u) w (λ n. elim n [ ])
 keeps_of v a (Text n) w r = refl
 keeps_of v a (Decimal x) w r = unread v a (Decimal x) x (λ e. r (read_of v x e)) (λ n. elim n [ ])
 keeps_of v a (Across u t) w r = both_true (unwritten v a u (Across u t) w (λ n. elim n [ ])) (differs_of t v (λ e. elim (r (inl (sym e))).access [ ]))
-keeps_of v a (Base u b x) w r = unwritten v a u (Base u b x) w (λ n. elim n [ ])
 keeps_of v a (PlaceIn u b t i) w r =
     let op : Op = PlaceIn u b t i in
     both_true
     (both_true (same_where v a u b (λ m. array_made_by v a u b t i (w m))) (unread v a op i (λ e. r (in_left v (value_in i) (t ∷ []) (read_of v i e))) (λ n. elim n [ ])))
     (differs_of t v (λ e. elim (r (in_right v (value_in i) (t ∷ []) (inl (sym e)))).access [ ]))
+keeps_of v a op w r = unwritten v a _ op w (λ n. elim n [ ])

@@ -4,7 +4,7 @@ use Rattle.std.specs.List.{list_all}
 use Rattle.vx_flow.specs.declared.graph.Operand.{Operand}
 use Rattle.vx_flow.specs.declared.graph.Operand.TheVariants.{Held, Number, Stack}
 use Rattle.vx_flow.specs.declared.graph.Op.{Op}
-use Rattle.vx_flow.specs.declared.graph.Op.TheVariants.{Compute, Select, Place, Load, Store, More, Input, Text, Decimal, Across, Base, PlaceIn}
+use Rattle.vx_flow.specs.declared.graph.Op.TheVariants.{Compute, Select}
 use Rattle.vx_flow.specs.declared.graph.Exit.{Exit}
 use Rattle.vx_flow.specs.declared.graph.Exit.TheVariants.{Goto, Split, Call, Return, Ends}
 use Rattle.vx_flow.specs.declared.graph.Block.{Block}
@@ -37,17 +37,7 @@ all_free (v ∷ vs) = all_free vs
 
 op_settles : (op : Op) → settles none op ≡ true
 op_settles (Compute code v a b) = refl
-op_settles (Select v p a b) = refl
-op_settles (Place v a i) = refl
-op_settles (Load v a p dismissible) = refl
-op_settles (Store a p x) = refl
-op_settles (More v) = refl
-op_settles (Input v) = refl
-op_settles (Text n) = refl
-op_settles (Decimal x) = refl
-op_settles (Across v u) = refl
-op_settles (Base v a x) = refl
-op_settles (PlaceIn v a u i) = refl
+op_settles op = refl
 
 result_free : (result : Option ℕ) → is_free none result ≡ true
 result_free None = refl
@@ -82,17 +72,7 @@ same_right false x = same_operand x
 
 same_op : (op : Op) → folded_op none op ≡ op
 same_op (Compute code v a b) = ap (λ x. Compute code v x (cond (is_unary code) b (folded none b))) (same_operand a) ∙ ap (Compute code v a) (same_right (is_unary code) b)
-same_op (Select v p a b) = ap (λ x. Select v p x (folded none b)) (same_operand a) ∙ ap (Select v p a) (same_operand b)
-same_op (Place v a i) = ap (Place v a) (same_operand i)
-same_op (Load v a p dismissible) = ap (λ x. Load v a x dismissible) (same_operand p)
-same_op (Store a p x) = ap (λ y. Store a y (folded none x)) (same_operand p) ∙ ap (Store a p) (same_operand x)
-same_op (More v) = refl
-same_op (Input v) = refl
-same_op (Text n) = refl
-same_op (Decimal x) = ap Decimal (same_operand x)
-same_op (Across v u) = refl
-same_op (Base v a x) = refl
-same_op (PlaceIn v a u i) = ap (PlaceIn v a u) (same_operand i)
+same_op op = ap (λ x. with_two op x (folded none (second_operand op))) (same_operand (first_operand op)) ∙ ap (with_two op (first_operand op)) (same_operand (second_operand op))
 
 same_operands : (xs : List Operand) → map (folded none) xs ≡ xs
 same_operands [] = refl
@@ -141,18 +121,8 @@ once_folded flow new graphs s e sound p o =
 -- ---- one operation
 
 folded_is : (numbers : ℕ → Option ℤ) (op : Op) → ((v p : ℕ) (a b : Operand) → op ≡ Select v p a b → ⊥) → with_two op (folded numbers (first_operand op)) (folded numbers (second_operand op)) ≡ folded_op numbers op
-folded_is numbers (Compute code v a b) n = refl
 folded_is numbers (Select v p a b) n = absurd (n v p a b refl)
-folded_is numbers (Place v a i) n = refl
-folded_is numbers (Load v a p dismissible) n = refl
-folded_is numbers (Store a p x) n = refl
-folded_is numbers (More v) n = refl
-folded_is numbers (Input v) n = refl
-folded_is numbers (Text k) n = refl
-folded_is numbers (Decimal x) n = refl
-folded_is numbers (Across v u) n = refl
-folded_is numbers (Base v a x) n = refl
-folded_is numbers (PlaceIn v a u i) n = refl
+folded_is numbers op n = refl
 
 pub folded_by : (numbers : ℕ → Option ℤ) (op new : Op) (x y : Operand) → new ≡ with_two op x y → x ≡ folded numbers (first_operand op) → y ≡ folded numbers (second_operand op) → ((v p : ℕ) (a b : Operand) → op ≡ Select v p a b → ⊥) → new ≡ folded_op numbers op
 folded_by numbers op new x y e p q n = e ∙ ap (λ z. with_two op z y) p ∙ ap (with_two op (folded numbers (first_operand op))) q ∙ folded_is numbers op n

@@ -5,14 +5,14 @@ use Rattle.std.proofs.lemmas.Bool.Decides.{nat_tests}
 use Rattle.std.specs.List.{list_all}
 use Rattle.std.specs.Ordering.{int_eq}
 use Rattle.std.specs.Fmt.{signed_decimal}
-use Rattle.vx_base.specs.Arithmetic.{value_of, product_of, one_if}
+use Rattle.vx_base.specs.Arithmetic.{value_of, product_of}
 use Rattle.vx_flow.specs.declared.graph.Operand.{Operand}
 use Rattle.vx_flow.specs.declared.graph.Operand.TheVariants.{Held, Number, Stack}
 use Rattle.vx_flow.specs.declared.graph.Op.{Op}
-use Rattle.vx_flow.specs.declared.graph.Op.TheVariants.{Compute, Select, Place, Load, Store, More, Input, Text, Decimal, Across, Base, PlaceIn}
+use Rattle.vx_flow.specs.declared.graph.Op.TheVariants.{Compute, Select, Place, Load, Store, Input, Text, Decimal, Across, PlaceIn}
 use Rattle.vx_flow.specs.declared.graph.Exit.{Exit}
 use Rattle.vx_flow.specs.declared.graph.Exit.TheVariants.{Goto, Split, Call, Return, Ends}
-use Rattle.vx_flow.specs.Effects.{Content, State, Setting, held, is_unary, both, is_one, computed, chosen, place_of, place_by, row_of, cell_in, cell_of, with_value, with_cell, loaded, stored, next_input, printed, is_left, effect}
+use Rattle.vx_flow.specs.Effects.{Content, State, Setting, held, is_unary, both, is_one, computed, chosen, place_of, place_by, row_of, cell_in, cell_of, with_value, with_cell, loaded, stored, next_input, printed, effect}
 use Rattle.vx_flow.specs.Meaning.{Hop, Arrives, with_front, at_entry, with_result, known, by_test, leave, and_then, block_hop}
 use Rattle.vx_flow.specs.Agree.{SameWorld, Agree}
 use Rattle.vx_flow.proofs.EffectsAlike.{Refined, Done, effect_alike}
@@ -124,16 +124,13 @@ module _ (numbers : ℕ → Option ℤ) where
   effect_folded setting (Store a p x) t t0 h =
       ap (λ y. stored t0 (setting.spot a) (cell_in (length (row_of t (setting.spot a))) y) (held t (folded numbers x))) (held_folded t p)
       ∙ ap (stored t0 (setting.spot a) (cell_in (length (row_of t (setting.spot a))) (held (over t) p))) (held_folded t x)
-  effect_folded setting (More v) t t0 h = refl
-  effect_folded setting (Input v) t t0 h = refl
-  effect_folded setting (Text n) t t0 h = refl
   effect_folded setting (Decimal x) t t0 h = ap (printed t0 t.out) (held_folded t x)
   effect_folded setting (Across v u) t t0 h =
       ap (λ o. Some (with_value t0 v (number_or o (t.values u)))) (sym (none_by (numbers u) (and_parts _ _ h).1))
-  effect_folded setting (Base v a x) t t0 h = refl
   effect_folded setting (PlaceIn v a u i) t t0 h =
       ap (λ x. Some (with_value t0 v (place_by (t.values u) x))) (held_folded t i)
       ∙ ap (λ o. Some (with_value t0 v (place_by (number_or o (t.values u)) (held (over t) i)))) (sym (none_by (numbers u) (and_parts _ _ h).1))
+  effect_folded setting op t t0 h = refl
 
   op_done : (setting : Setting) (op : Op) (s t s' : State) → settles numbers op ≡ true → Settled numbers s.values → Agree All s t → effect setting s op s ≡ Some s' → Done All s' (effect setting t (folded_op numbers op) t)
   op_done setting op s t s' h i a e =
@@ -211,7 +208,6 @@ module _ (numbers : ℕ → Option ℤ) where
       (settled_by s v (computed code (held s a) (held s b)) i (λ n m q r.
       let g : is_content n (computed code (number_in numbers a) (number_in numbers b)) ≡ true = ap (λ o. gives o (computed code (number_in numbers a) (number_in numbers b))) (sym q) ∙ h in
       computed_is (is_unary code) (value_of code) s a b m n i r (content_by n (computed code (number_in numbers a) (number_in numbers b)) g)))
-  op_settled setting (Select v p a b) s s' h i e = written_by s s' v (chosen (s.values p) (held s a) (held s b)) h i e
   op_settled setting (Place v a x) s s' h i e =
       values_by (with_value s v (place_of (held s x))) s' e
       (settled_by s v (place_of (held s x)) i (λ n m q r.
@@ -219,13 +215,12 @@ module _ (numbers : ℕ → Option ℤ) where
       place_is (held s x) (number_in numbers x) m n (λ k j. held_is s x k j i) r (content_by n (place_of (number_in numbers x)) g)))
   op_settled setting (Load v a p dismissible) s s' h i e = loaded_settled s s' v (row_of s (setting.spot a)) (cell_of setting s a p) dismissible h i e
   op_settled setting (Store a p x) s s' h i e = stored_settled s s' (setting.spot a) (cell_of setting s a p) (held s x) i e
-  op_settled setting (More v) s s' h i e = written_by s s' v (Some (one_if (is_left s.input))) h i e
   op_settled setting (Input v) s s' h i e = input_settled s s' v s.input h i e
   op_settled setting (Text n) s s' h i e = values_by (record s { out = s.out ++ slice_index_or setting.texts n [] }) s' e i
   op_settled setting (Decimal x) s s' h i e = printed_settled s s' s.out (held s x) i e
   op_settled setting (Across v u) s s' h i e = written_by s s' v (s.values u) (and_parts _ _ h).0 i e
-  op_settled setting (Base v a x) s s' h i e = written_by s s' v (Some (pos (setting.spot a))) h i e
   op_settled setting (PlaceIn v a u x) s s' h i e = written_by s s' v (place_by (s.values u) (held s x)) (and_parts _ _ h).0 i e
+  op_settled setting op s s' h i e = written_by s s' _ _ h i e
 
   -- ---- exits
 

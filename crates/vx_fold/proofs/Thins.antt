@@ -1,15 +1,13 @@
 -- One block without the operations whose results are not read, from states that agree on what is read.
-use Rattle.std.proofs.Common.{◌≡◌, inl, ℕ, ◌==◌, ◌||◌, Bool, true, false, cond, ℤ, pos, List, [], ◌∷◌, map, slice_index_or, Option, Some, None, refl, sym, ap, ◌∙◌, subst}
+use Rattle.std.proofs.Common.{◌≡◌, inl, ℕ, ◌==◌, ◌||◌, Bool, true, false, cond, ℤ, List, [], ◌∷◌, map, slice_index_or, Option, Some, None, refl, sym, ap, ◌∙◌, subst}
 use Rattle.std.proofs.lemmas.Bool.{and_parts, false≢true, eqb-true}
 use Rattle.std.specs.List.{list_all, flat_map}
 use Rattle.std.specs.Prelude.{not}
 use Rattle.vx_flow.specs.declared.graph.Op.{Op}
-use Rattle.vx_flow.specs.declared.graph.Op.TheVariants.{Compute, Select, Place, Load, Store, More, Input, Text, Decimal, Across, Base, PlaceIn}
+use Rattle.vx_flow.specs.declared.graph.Op.TheVariants.{Load, Store, Input, Text, Decimal}
 use Rattle.vx_flow.specs.declared.graph.Exit.{Exit}
 use Rattle.vx_flow.specs.declared.graph.Exit.TheVariants.{Goto, Split, Call, Return, Ends}
-use Rattle.vx_flow.specs.Effects.{Content, State, Setting, IsIn, held, computed, chosen, place_of, place_by, row_of, cell_of, with_value, loaded, effect, value_in, reads}
-use Rattle.vx_base.specs.Arithmetic.{one_if}
-use Rattle.vx_flow.specs.Effects.{is_left}
+use Rattle.vx_flow.specs.Effects.{Content, State, Setting, IsIn, held, row_of, cell_of, with_value, loaded, effect, value_in, reads}
 use Rattle.vx_flow.specs.Live.{reads_of_exit}
 use Rattle.vx_flow.specs.Meaning.{Hop, known, leave, and_then, block_hop}
 use Rattle.vx_flow.specs.Agree.{Agree}
@@ -59,18 +57,12 @@ module _ (unread : ℕ → Bool) where
   loaded_by s t s' v row (Some i) dismissible u a e = written_by s t s' v (slice_index_or row i None) u a e
 
   dropped : (setting : Setting) (op : Op) (s t s' : State) → is_unread unread (result_alone op) ≡ true → Agree Lives s t → effect setting s op s ≡ Some s' → Agree Lives s' t
-  dropped setting (Compute code v a b) s t s' u g e = written_by s t s' v (computed code (held s a) (held s b)) u g e
-  dropped setting (Select v p a b) s t s' u g e = written_by s t s' v (chosen (s.values p) (held s a) (held s b)) u g e
-  dropped setting (Place v a i) s t s' u g e = written_by s t s' v (place_of (held s i)) u g e
   dropped setting (Load v a p dismissible) s t s' u g e = loaded_by s t s' v (row_of s (setting.spot a)) (cell_of setting s a p) dismissible u g e
   dropped setting (Store a p x) s t s' u g e = absurd (false≢true u)
-  dropped setting (More v) s t s' u g e = written_by s t s' v (Some (one_if (is_left s.input))) u g e
   dropped setting (Input v) s t s' u g e = absurd (false≢true u)
   dropped setting (Text n) s t s' u g e = absurd (false≢true u)
   dropped setting (Decimal x) s t s' u g e = absurd (false≢true u)
-  dropped setting (Across v w) s t s' u g e = written_by s t s' v (s.values w) u g e
-  dropped setting (Base v a x) s t s' u g e = written_by s t s' v (Some (pos (setting.spot a))) u g e
-  dropped setting (PlaceIn v a w i) s t s' u g e = written_by s t s' v (place_by (s.values w) (held s i)) u g e
+  dropped setting op s t s' u g e = written_by s t s' _ _ u g e
 
   -- ---- exits
 

@@ -3,7 +3,7 @@ use Rattle.std.proofs.Common.{◌≡◌, ℕ, ◌==◌, Bool, true, false, cond,
 use Rattle.std.proofs.lemmas.Bool.{and_parts, false≢true, eqb-true}
 use Rattle.std.specs.List.{list_all}
 use Rattle.vx_flow.specs.declared.graph.Op.{Op}
-use Rattle.vx_flow.specs.declared.graph.Op.TheVariants.{Compute, Select, Place, Load, Store, More, Input, Text, Decimal, Across, Base, PlaceIn}
+use Rattle.vx_flow.specs.declared.graph.Op.TheVariants.{Compute, Select, Place, Load, Base, PlaceIn}
 use Rattle.vx_flow.specs.declared.graph.Exit.{Exit}
 use Rattle.vx_flow.specs.declared.graph.Block.{Block}
 use Rattle.vx_flow.specs.Effects.{Content, State, Setting, held, computed, chosen, place_of, place_by, row_of, cell_of, with_value, loaded, effect, reads}
@@ -51,14 +51,9 @@ module _ (unread : ℕ → Bool) where
   added setting (Select v p a b) s t h u g = added_value s t v (chosen (t.values p) (held t a) (held t b)) u g
   added setting (Place v a i) s t h u g = added_value s t v (place_of (held t i)) u g
   added setting (Load v a p dismissible) s t h u g = added_load s t v (row_of t (setting.spot a)) (cell_of setting t a p) dismissible h u g
-  added setting (Store a p x) s t h u g = absurd (false≢true h)
-  added setting (More v) s t h u g = absurd (false≢true h)
-  added setting (Input v) s t h u g = absurd (false≢true h)
-  added setting (Text n) s t h u g = absurd (false≢true h)
-  added setting (Decimal x) s t h u g = absurd (false≢true h)
-  added setting (Across v w) s t h u g = absurd (false≢true h)
   added setting (Base v a x) s t h u g = added_value s t v (Some (pos (setting.spot a))) u g
   added setting (PlaceIn v a w i) s t h u g = added_value s t v (place_by (t.values w) (held t i)) u g
+  added setting op s t h u g = absurd (false≢true h)
 
   -- ---- operations, and then the exit
 

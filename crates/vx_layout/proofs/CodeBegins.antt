@@ -5,7 +5,7 @@ use Rattle.std.specs.List.{list_all}
 use Rattle.std.proofs.lemmas.Bool.{and_parts}
 use Rattle.std.proofs.Math.Nat.{mod-eq_of_lt}
 use Rattle.vx_base.specs.declared.arithmetic.Code.{Code}
-use Rattle.vx_base.specs.declared.arithmetic.Code.TheVariants.{Add, Sub, And, Or, Xor, Shl, Shr, Shru, Sh2add, Max, Min, Mov, ToGeneral, ToBranch, Mpylu, Mpyhs, Div, Rem}
+use Rattle.vx_base.specs.declared.arithmetic.Code.TheVariants.{Mov, ToBranch}
 use Rattle.vx_flow.specs.declared.graph.Bank.{Bank}
 use Rattle.vx_flow.specs.declared.graph.Bank.TheVariants.{General, Branch}
 use Rattle.vx_flow.specs.declared.graph.Block.{Block}
@@ -53,43 +53,11 @@ module _ (banks : List Bank) where
   right_whole Mov (Held v) h = absurd (cc)
   right_whole Mov (Number n) h = refl
   right_whole Mov Stack h = refl
-  right_whole Add x h = operand_whole x h
-  right_whole Sub x h = operand_whole x h
-  right_whole And x h = operand_whole x h
-  right_whole Or x h = operand_whole x h
-  right_whole Xor x h = operand_whole x h
-  right_whole Shl x h = operand_whole x h
-  right_whole Shr x h = operand_whole x h
-  right_whole Shru x h = operand_whole x h
-  right_whole Sh2add x h = operand_whole x h
-  right_whole Max x h = operand_whole x h
-  right_whole Min x h = operand_whole x h
-  right_whole (ToGeneral k) x h = operand_whole x h
-  right_whole (ToBranch k) x h = operand_whole x h
-  right_whole Mpylu x h = operand_whole x h
-  right_whole Mpyhs x h = operand_whole x h
-  right_whole Div x h = operand_whole x h
-  right_whole Rem x h = operand_whole x h
+  right_whole code x h = operand_whole x h
 
   written_whole : (code : Code) (v : ℕ) → is_written banks code v ≡ true → whole N v ≡ v
-  written_whole Mov v h = general_whole v h
-  written_whole Add v h = general_whole v h
-  written_whole Sub v h = general_whole v h
-  written_whole And v h = general_whole v h
-  written_whole Or v h = general_whole v h
-  written_whole Xor v h = general_whole v h
-  written_whole Shl v h = general_whole v h
-  written_whole Shr v h = general_whole v h
-  written_whole Shru v h = general_whole v h
-  written_whole Sh2add v h = general_whole v h
-  written_whole Max v h = general_whole v h
-  written_whole Min v h = general_whole v h
-  written_whole (ToGeneral k) v h = general_whole v h
   written_whole (ToBranch k) v h = branch_whole v h
-  written_whole Mpylu v h = general_whole v h
-  written_whole Mpyhs v h = general_whole v h
-  written_whole Div v h = general_whole v h
-  written_whole Rem v h = general_whole v h
+  written_whole code v h = general_whole v h
 
   op_whole : (n : ℕ) (op : Op) → is_sound_operation banks n op ≡ true → whole_op N op ≡ op
   op_whole n (Compute code v a b) h =

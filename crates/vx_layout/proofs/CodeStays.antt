@@ -8,7 +8,7 @@ use Rattle.vx_flow.specs.declared.graph.Exit.{Exit}
 use Rattle.vx_flow.specs.declared.graph.Exit.TheVariants.{Goto, Split as Branches, Call, Return, Ends}
 use Rattle.vx_flow.specs.declared.graph.Graph.{Graph}
 use Rattle.vx_flow.specs.declared.graph.Op.{Op}
-use Rattle.vx_flow.specs.declared.graph.Op.TheVariants.{Compute, Select, Place, Load, Store, More, Input, Text, Decimal, Across, Base, PlaceIn}
+use Rattle.vx_flow.specs.declared.graph.Op.TheVariants.{Compute}
 use Rattle.vx_flow.specs.declared.trace.TraceOp.TheVariants.{Plain as TracePlain, Split as TraceSplit}
 use Rattle.vx_flow.specs.Effects.{IsIn, dismissed, writes}
 use Rattle.vx_flow.specs.Walk.{edge}
@@ -35,45 +35,15 @@ use Rattle.vx_mixed.proofs.StaysValid.{linkable}
 
 pub whole_dismissed : (n : ℕ) (op : Op) → dismissed (whole_op n (dismissed op)) ≡ dismissed (whole_op n op)
 whole_dismissed n (Compute code v a b) = refl
-whole_dismissed n (Select v p a b) = refl
-whole_dismissed n (Place v a i) = refl
-whole_dismissed n (Load v a p d) = refl
-whole_dismissed n (Store a p x) = refl
-whole_dismissed n (More v) = refl
-whole_dismissed n (Input v) = refl
-whole_dismissed n (Text k) = refl
-whole_dismissed n (Decimal x) = refl
-whole_dismissed n (Across v u) = refl
-whole_dismissed n (Base v a x) = refl
-whole_dismissed n (PlaceIn v a u i) = refl
+whole_dismissed n op = refl
 
 pub writes_dismissed : (op : Op) → writes (dismissed op) ≡ writes op
 writes_dismissed (Compute code v a b) = refl
-writes_dismissed (Select v p a b) = refl
-writes_dismissed (Place v a i) = refl
-writes_dismissed (Load v a p d) = refl
-writes_dismissed (Store a p x) = refl
-writes_dismissed (More v) = refl
-writes_dismissed (Input v) = refl
-writes_dismissed (Text k) = refl
-writes_dismissed (Decimal x) = refl
-writes_dismissed (Across v u) = refl
-writes_dismissed (Base v a x) = refl
-writes_dismissed (PlaceIn v a u i) = refl
+writes_dismissed op = refl
 
 names_dismissed : (op : Op) → names_of (dismissed op) ≡ names_of op
 names_dismissed (Compute code v a b) = refl
-names_dismissed (Select v p a b) = refl
-names_dismissed (Place v a i) = refl
-names_dismissed (Load v a p d) = refl
-names_dismissed (Store a p x) = refl
-names_dismissed (More v) = refl
-names_dismissed (Input v) = refl
-names_dismissed (Text k) = refl
-names_dismissed (Decimal x) = refl
-names_dismissed (Across v u) = refl
-names_dismissed (Base v a x) = refl
-names_dismissed (PlaceIn v a u i) = refl
+names_dismissed op = refl
 
 comes_dismissed : (graph : Graph) (op : Op) → ComesFrom graph op → ComesFrom graph (dismissed op)
 comes_dismissed graph op (graph_op {op = o} origin has same wrote below) =

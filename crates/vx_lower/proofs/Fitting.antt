@@ -9,7 +9,7 @@ use Rattle.vx_base.specs.declared.outcome.Trap.{Trap}
 use Rattle.vx_flow.specs.declared.graph.Operand.{Operand}
 use Rattle.vx_flow.specs.declared.graph.Operand.TheVariants.{Held, Number, Stack}
 use Rattle.vx_flow.specs.declared.graph.Op.{Op}
-use Rattle.vx_flow.specs.declared.graph.Op.TheVariants.{Compute, Select, Place, Load, Store, More, Input, Text, Decimal, Across, Base, PlaceIn}
+use Rattle.vx_flow.specs.declared.graph.Op.TheVariants.{Compute, Place, Load, Store, More, Input, Decimal, Base, PlaceIn}
 use Rattle.vx_flow.specs.declared.graph.Exit.{Exit}
 use Rattle.vx_flow.specs.declared.graph.Exit.TheVariants.{Goto, Split, Call, Return, Ends}
 use Rattle.vx_flow.specs.declared.graph.Block.{Block}
@@ -122,17 +122,15 @@ result_on roles later kept (Some v) h = kept v Scalar h
 module _ {words : Sees} (k : Known words) (texts : ℕ) where
   pub op_on : (roles later : List Role) → Kept roles later → (op : Op) → OpFits k texts roles op → OpFits k texts later op
   op_on roles later kept (Compute code t a b) h = (kept t (role_written code) h.0, operand_on roles later kept a h.1, right_on roles later kept code b h.2)
-  op_on roles later kept (Select t test a b) h = h
   op_on roles later kept (Place t a i) h = (kept t (PlaceOf a) h.0, h.1, operand_on roles later kept i h.2, h.3)
   op_on roles later kept (Load t a p dismissible) h = (kept t Scalar h.0, h.1, place_on k roles later kept a p h.2, h.3)
   op_on roles later kept (Store a p o) h = (h.0, place_on k roles later kept a p h.1, operand_on roles later kept o h.2)
   op_on roles later kept (More t) h = kept t Scalar h
   op_on roles later kept (Input t) h = kept t Scalar h
-  op_on roles later kept (Text n) h = h
   op_on roles later kept (Decimal o) h = operand_on roles later kept o h
-  op_on roles later kept (Across t v) h = h
   op_on roles later kept (Base t a x) h = (kept t Stand h.0, h.1, h.2, h.3)
   op_on roles later kept (PlaceIn t a u i) h = (kept t (PlaceOf a) h.0, h.1, h.2, operand_on roles later kept i h.3)
+  op_on roles later kept op h = h
 
 target_on : (m n c : ℕ) → m ≤ n → TargetFits m c → TargetFits n c
 target_on m n c le h = let l = h.1 in (h.0, omega arith)

@@ -9,7 +9,7 @@ use Rattle.vx_base.specs.declared.outcome.Trap.{Trap}
 use Rattle.vx_flow.specs.declared.graph.Bank.{Bank}
 use Rattle.vx_flow.specs.declared.graph.Bank.TheVariants.{General, Branch}
 use Rattle.vx_flow.specs.declared.graph.Op.{Op}
-use Rattle.vx_flow.specs.declared.graph.Op.TheVariants.{Compute, Select, Place, Load, Store, More, Input, Text, Decimal, Across, Base, PlaceIn}
+use Rattle.vx_flow.specs.declared.graph.Op.TheVariants.{Text}
 use Rattle.vx_flow.specs.declared.graph.Exit.{Exit}
 use Rattle.vx_flow.specs.declared.graph.Exit.TheVariants.{Goto, Split, Call, Return, Ends}
 use Rattle.vx_flow.specs.declared.graph.Block.{Block}
@@ -102,17 +102,7 @@ keeps_on x y =
 
 texts_more : {words : Sees} (k : Known words) (roles : List Role) (before texts : ℕ) → before ≤ texts → (op : Op) → OpFits k before roles op → OpFits k texts roles op
 texts_more k roles before texts le (Text n) h = omega arith
-texts_more k roles before texts le (Compute code t a b) h = h
-texts_more k roles before texts le (Select t test a b) h = h
-texts_more k roles before texts le (Place t a i) h = h
-texts_more k roles before texts le (Load t a p dismissible) h = h
-texts_more k roles before texts le (Store a p o) h = h
-texts_more k roles before texts le (More t) h = h
-texts_more k roles before texts le (Input t) h = h
-texts_more k roles before texts le (Decimal o) h = h
-texts_more k roles before texts le (Across t v) h = h
-texts_more k roles before texts le (Base t a x) h = h
-texts_more k roles before texts le (PlaceIn t a u i) h = h
+texts_more k roles before texts le op h = h
 
 pub shaped_texts : {words : Sees} {k : Known words} {roles : List Role} {b : Builder} (before texts : ℕ) → before ≤ texts → Shaped k before roles b → Shaped k texts roles b
 shaped_texts {k = k} {roles = roles} before texts le s = let f = s.fits in record {

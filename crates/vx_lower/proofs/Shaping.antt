@@ -247,13 +247,10 @@ module _ {words : Sees} (k : Known words) (texts : ℕ) (roles : List Role) (b :
   operands (Place t a i) x h m = only x i (operand_of i h.2) m
   operands (Load t a p dismissible) x h m = only x p (place_of a p h.2) m
   operands (Store a p o) x h m = first_of_two x p o (place_of a p h.1) (operand_of o h.2) m
-  operands (More t) x h m = absurd m
-  operands (Input t) x h m = absurd m
-  operands (Text n) x h m = absurd m
   operands (Decimal o) x h m = only x o (operand_of o h) m
   operands (Across t v) x h m = absurd h
-  operands (Base t a y) x h m = absurd m
   operands (PlaceIn t a u i) x h m = first_of_two x i (Held u) (operand_of i h.3) (has_bank u Stand (base_fits_role a u h.1 h.2)) m
+  operands op x h m = absurd m
 
   one_value : (u v : ℕ) (role : Role) → HasRole roles v role → IsIn u (v ∷ []) → slice_get g.banks u ≡ Some (bank_of_role role)
   one_value u v role h (inl e) = subst (λ z. slice_get g.banks z ≡ Some (bank_of_role role)) (sym e) (has_bank v role h)
@@ -264,46 +261,28 @@ module _ {words : Sees} (k : Known words) (texts : ℕ) (roles : List Role) (b :
   results (Select t test l r) v h m = absurd h
   results (Place t a i) v h m = one_value v t (PlaceOf a) h.0 m
   results (Load t a p dismissible) v h m = one_value v t Scalar h.0 m
-  results (Store a p o) v h m = absurd m
   results (More t) v h m = one_value v t Scalar h m
   results (Input t) v h m = one_value v t Scalar h m
-  results (Text n) v h m = absurd m
-  results (Decimal o) v h m = absurd m
   results (Across t u) v h m = absurd h
   results (Base t a x) v h m = one_value v t Stand h.0 m
   results (PlaceIn t a u i) v h m = one_value v t (PlaceOf a) h.0 m
+  results op v h m = absurd m
 
   tests : (op : Op) (v : ℕ) → OpFits k texts roles op → IsIn v (tests_of op) → ⊥
-  tests (Compute code t l r) v h m = m
   tests (Select t test l r) v h m = h
-  tests (Place t a i) v h m = m
-  tests (Load t a p dismissible) v h m = m
-  tests (Store a p o) v h m = m
-  tests (More t) v h m = m
-  tests (Input t) v h m = m
-  tests (Text n) v h m = m
-  tests (Decimal o) v h m = m
-  tests (Across t u) v h m = m
-  tests (Base t a x) v h m = m
-  tests (PlaceIn t a u i) v h m = m
+  tests op v h m = m
 
   array_there : (a c : ℕ) → c < length words.arrays → IsIn a (c ∷ []) → a < length g.arrays
   array_there a c l (inl e) = let q = many_arrays in omega arith
   array_there a c l (inr m) = absurd m
 
   arrays_there : (op : Op) (a : ℕ) → OpFits k texts roles op → IsIn a (arrays_of op) → a < length g.arrays
-  arrays_there (Compute code t l r) a h m = absurd m
-  arrays_there (Select t test l r) a h m = absurd m
   arrays_there (Place t c i) a h m = array_there a c h.1 m
   arrays_there (Load t c p dismissible) a h m = array_there a c h.1 m
   arrays_there (Store c p o) a h m = array_there a c h.0 m
-  arrays_there (More t) a h m = absurd m
-  arrays_there (Input t) a h m = absurd m
-  arrays_there (Text n) a h m = absurd m
-  arrays_there (Decimal o) a h m = absurd m
-  arrays_there (Across t u) a h m = absurd m
   arrays_there (Base t c x) a h m = array_there a c h.1 m
   arrays_there (PlaceIn t c u i) a h m = array_there a c h.1 m
+  arrays_there op a h m = absurd m
 
   -- exits
 
@@ -406,17 +385,15 @@ module _ {words : Sees} (k : Known words) (texts : ℕ) (roles : List Role) (b :
       let q : a ≡ c = cc in
       subst (λ z. MakesPlace v a (Place z c i)) (in_one v t m) (subst (λ z. MakesPlace v a (Place v z i)) q by_itself)
   place_written v a (Load t c o dismissible) p h m = absurd (no_scalar v a t p h.0 m)
-  place_written v a (Store c o x) p h m = absurd m
   place_written v a (More t) p h m = absurd (no_scalar v a t p h m)
   place_written v a (Input t) p h m = absurd (no_scalar v a t p h m)
-  place_written v a (Text n) p h m = absurd m
-  place_written v a (Decimal o) p h m = absurd m
   place_written v a (Across t u) p h m = absurd h
   place_written v a (Base t c x) p h m = let e : PlaceOf a ≡ Stand = same_role v a t Stand p h.0 m in absurd (cc)
   place_written v a (PlaceIn t c u i) p h m =
       let e : PlaceOf a ≡ PlaceOf c = same_role v a t (PlaceOf c) p h.0 m in
       let q : a ≡ c = cc in
       subst (λ z. MakesPlace v a (PlaceIn z c u i)) (in_one v t m) (subst (λ z. MakesPlace v a (PlaceIn v z u i)) q by_base)
+  place_written v a op p h m = absurd m
 
   computed : (v a : ℕ) (code : Code) (t : ℕ) (l r : Operand) → HasRole roles v (PlaceOf a) → OpFits k texts roles (Compute code t l r) → IsIn v (reads (Compute code t l r)) → ⊥
   computed v a Mov t l r p h m = no_operand roles v a l p h.1 m
@@ -446,16 +423,13 @@ module _ {words : Sees} (k : Known words) (texts : ℕ) (roles : List Role) (b :
             access = subst (λ z. IsAccess a (Held v) (Store z o u)) (sym q) (subst (λ z. IsAccess a (Held v) (Store a z u)) (sym e) stores);
             unstored = λ x d n. let w : u ≡ Held v = cc in no_operand roles v a u p h.2 (subst (λ z. IsIn v (value_in z)) (sym w) (inl refl));
           }
-  place_read v a (More t) p h m = absurd m
-  place_read v a (Input t) p h m = absurd m
-  place_read v a (Text n) p h m = absurd m
   place_read v a (Decimal o) p h m = absurd (no_operand roles v a o p h m)
   place_read v a (Across t u) p h m = absurd h
-  place_read v a (Base t c x) p h m = absurd m
   place_read v a (PlaceIn t c u i) p h m = elim (in_either v (value_in i) (u ∷ []) m) [
     | inl w ↦ absurd (no_operand roles v a i p h.3 w)
     | inr w ↦ let e : PlaceOf a ≡ Stand = role_is roles v (PlaceOf a) Stand p (subst (λ z. HasRole roles z Stand) (sym (in_one v u w)) (base_fits_role c u h.1 h.2)) in absurd (cc)
   ]
+  place_read v a op p h m = absurd m
 
   no_passes : (v a : ℕ) (x : Operand) → HasRole roles v (PlaceOf a) → x ≡ Held v → Passes x → ⊥
   no_passes v a x p e (inl h) = no_operand roles v a (Held v) p (subst (OperandFits roles) e h) (inl refl)
@@ -543,14 +517,12 @@ module _ {words : Sees} (k : Known words) (texts : ℕ) (roles : List Role) (b :
   base_written v (Select t test l r) p h m = absurd h
   base_written v (Place t c i) p h m = let e : Stand ≡ PlaceOf c = same_stand v t (PlaceOf c) p h.0 m in absurd (cc)
   base_written v (Load t c o dismissible) p h m = absurd (no_scalar_stand v t p h.0 m)
-  base_written v (Store c o x) p h m = absurd m
   base_written v (More t) p h m = absurd (no_scalar_stand v t p h m)
   base_written v (Input t) p h m = absurd (no_scalar_stand v t p h m)
-  base_written v (Text n) p h m = absurd m
-  base_written v (Decimal o) p h m = absurd m
   base_written v (Across t u) p h m = absurd h
   base_written v (Base t c x) p h m = (c, x, ap (λ z. Base z c x) (sym (in_one v t m)))
   base_written v (PlaceIn t c u i) p h m = let e : Stand ≡ PlaceOf c = same_stand v t (PlaceOf c) p h.0 m in absurd (cc)
+  base_written v op p h m = absurd m
 
   no_place_stand : (v a : ℕ) (o : Operand) → HasRole roles v Stand → PlaceFits k roles a o → IsIn v (value_in o) → ⊥
   no_place_stand v a o p h m = let e : Stand ≡ PlaceOf a = role_is roles v Stand (PlaceOf a) p (subst (PlaceFits k roles a) (in_value v o m) h) in cc
@@ -565,16 +537,13 @@ module _ {words : Sees} (k : Known words) (texts : ℕ) (roles : List Role) (b :
   base_read v (Place t c i) p h m = absurd (no_number roles v i p h.2 m)
   base_read v (Load t c o dismissible) p h m = absurd (no_place_stand v c o p h.2 m)
   base_read v (Store c o u) p h m = elim (in_either v (value_in o) (value_in u) m) [ inl w ↦ absurd (no_place_stand v c o p h.1 w) | inr w ↦ absurd (no_number roles v u p h.2 w) ]
-  base_read v (More t) p h m = absurd m
-  base_read v (Input t) p h m = absurd m
-  base_read v (Text n) p h m = absurd m
   base_read v (Decimal o) p h m = absurd (no_number roles v o p h m)
   base_read v (Across t u) p h m = absurd h
-  base_read v (Base t c x) p h m = absurd m
   base_read v (PlaceIn t c u i) p h m = elim (in_either v (value_in i) (u ∷ []) m) [
     | inl w ↦ absurd (no_number roles v i p h.3 w)
     | inr w ↦ (t, c, i, ap (λ z. PlaceIn t c z i) (sym (in_one v u w)), λ e. no_number roles v i p h.3 (subst (λ z. IsIn v (value_in z)) (sym e) (inl refl)))
   ]
+  base_read v op p h m = absurd m
 
   -- the roles of parameters
   role_of_parameter : (v : ℕ) → IsIn v g.parameters → HasRole roles v Scalar ⊎ IsHandedBase words v

@@ -1,19 +1,19 @@
 -- One word from two states that have the same arrays, input and output, and agree on what the word reads.
-use Rattle.std.proofs.Common.{◌≡◌, ℕ, ℤ, pos, Bool, true, false, Option, Some, None, List, [], ◌∷◌, ◌++◌, cond, length, slice_index_or, slice_set, refl, sym, ap, ◌∙◌, subst, ⊎_elim, inl, inr}
+use Rattle.std.proofs.Common.{◌≡◌, ℕ, ℤ, Bool, true, false, Option, Some, None, List, [], ◌∷◌, ◌++◌, cond, length, slice_index_or, slice_set, refl, sym, ap, ◌∙◌, subst, ⊎_elim, inl, inr}
 use Rattle.std.specs.Prelude.{◌⊎◌}
 use Rattle.std.proofs.lemmas.Bool.{cases_eq, eq-eqb, ne_eqb}
 use Rattle.std.specs.Fmt.{signed_decimal}
-use Rattle.vx_base.specs.Arithmetic.{one_if}
-use Rattle.vx_flow.specs.Effects.{Content, State, Setting, text_at, held, cell_in, row_of, with_value, loaded, stored, next_input, printed, is_left, effect, value_in, reads, writes, IsIn}
+use Rattle.vx_flow.specs.Effects.{Content, State, Setting, text_at, held, cell_in, row_of, with_value, loaded, stored, next_input, printed, effect, value_in, reads, writes, IsIn}
 use Rattle.vx_flow.specs.declared.graph.Op.{Op}
-use Rattle.vx_flow.specs.declared.graph.Op.TheVariants.{Compute, Select, Place, Load, Store, More, Input, Text, Decimal, Across, Base, PlaceIn}
+use Rattle.vx_flow.specs.declared.graph.Op.TheVariants.{Load, Store, Input, Text, Decimal}
 use Rattle.vx_flow.specs.declared.graph.Operand.{Operand}
+use Rattle.vx_flow.proofs.EffectsAlike.{content, content_refined}
 use Rattle.vx_mixed.specs.declared.region.Item.{Item}
 use Rattle.vx_mixed.specs.declared.region.Item.TheVariants.{Plain, Split}
 use Rattle.vx_mixed.specs.Meaning.{word_effect, into}
 use Rattle.vx_mixed.specs.Live.{word_reads, word_writes}
 use Rattle.vx_mixed.specs.Agree.{SameWorld}
-use Rattle.vx_mixed.proofs.Contents.{Grows, none_is, in_append, grows_held, grows_computed, grows_chosen, grows_place, grows_place_by, cell_from, left_read, right_read}
+use Rattle.vx_mixed.proofs.Contents.{Grows, none_is, in_append, grows_held, cell_from}
 
 pub record Both (ws : List ℕ) (x y x' y' : State) : Type 0 where
   pub world : SameWorld x' y'
@@ -112,20 +112,12 @@ module _ (setting : Setting) (s t : State) (w : SameWorld s t) where
   cell_same a p g i e = ap (λ z. cell_in (length z) (held t p)) (row_same s t (setting.spot a) w) ∙ cell_from (length (row_of s (setting.spot a))) (held s p) (held t p) i g e
 
   pub op_follows : (op : Op) (x y : State) → Known (reads op) → SameWorld x y → Follow (writes op) x y (effect setting s op x) (effect setting t op y)
-  op_follows (Compute code v a b) x y k e =
-      value x y v _ _ e (grows_computed code (held s a) (held s b) (held t a) (held t b) (operand a (reads (Compute code v a b)) k (left_read code v a b)) (λ two. operand b (reads (Compute code v a b)) k (right_read code v a b two)))
-  op_follows (Select v p a b) x y k e = value x y v _ _ e (grows_chosen (s.values p) (held s a) (held s b) (t.values p) (held t a) (held t b) (k p (inl refl)) (operand a (p ∷ (value_in a ++ value_in b)) k (λ u r. inr (in_append u (value_in a) (value_in b) (inl r)))) (operand b (p ∷ (value_in a ++ value_in b)) k (λ u r. inr (in_append u (value_in a) (value_in b) (inr r)))))
-  op_follows (Place v a i) x y k e = value x y v _ _ e (grows_place (held s i) (held t i) (operand i (value_in i) k (λ u r. r)))
   op_follows (Load v a p d) x y k e = loads_on x y v _ _ _ _ d e (row_same s t (setting.spot a) w) (cell_same a p (operand p (value_in p) k (λ u r. r)))
   op_follows (Store a p z) x y k e = stores x y (setting.spot a) _ _ _ _ e (cell_same a p (operand p (value_in p ++ value_in z) k (λ u r. in_append u (value_in p) (value_in z) (inl r)))) (operand z (value_in p ++ value_in z) k (λ u r. in_append u (value_in p) (value_in z) (inr r)))
-  op_follows (More v) x y k e = value x y v _ _ e (λ n q. ap (λ z. Some (one_if (is_left z))) w.input ∙ q)
   op_follows (Input v) x y k e = subst (λ z. Follow (v ∷ []) x y (next_input x v s.input) (next_input y v z)) (sym w.input) (takes x y v s.input e)
   op_follows (Text n) x y k e = record { world = record { arrays = e.arrays; input = e.input; out = ap (λ z. z ++ text_at setting n) w.out }; written = λ v h. absurd h; left = λ v h. refl; right = λ v h. refl }
   op_follows (Decimal p) x y k e = subst (λ z. Follow [] x y (printed x s.out (held s p)) (printed y z (held t p))) (sym w.out) (shows x y s.out _ _ e (operand p (value_in p) k (λ u r. r)))
-  op_follows (Across v u) x y k e = value x y v _ _ e (k u (inl refl))
-  op_follows (Base v a b) x y k e = value x y v (Some (pos (setting.spot a))) (Some (pos (setting.spot a))) e (λ n q. q)
-  op_follows (PlaceIn v a b i) x y k e =
-      value x y v _ _ e (grows_place_by (s.values b) (t.values b) (held s i) (held t i) (k b (in_append b (value_in i) (b ∷ []) (inr (inl refl)))) (operand i (value_in i ++ b ∷ []) k (λ u r. in_append u (value_in i) (b ∷ []) (inl r))))
+  op_follows op x y k e = value x y _ (content setting s op) (content setting t op) e (content_refined setting op s t k (λ r. w.input))
 
   -- after the first operation the rest
   chain : (us vs : List ℕ) (x y x1 y1 : State) (o p : Option State) → Both us x y x1 y1 → Follow vs x1 y1 o p → Follow (us ++ vs) x y o p

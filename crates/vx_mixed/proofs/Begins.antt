@@ -6,7 +6,7 @@ use Rattle.std.specs.Option.{option_map}
 use Rattle.std.proofs.lemmas.Option.{slice_get-map}
 use Rattle.std.proofs.lemmas.Bool.{and_parts, lt-ltb}
 use Rattle.vx_base.specs.declared.arithmetic.Code.{Code}
-use Rattle.vx_base.specs.declared.arithmetic.Code.TheVariants.{Add, Sub, And, Or, Xor, Shl, Shr, Shru, Sh2add, Max, Min, Mov, ToGeneral, ToBranch, Mpylu, Mpyhs, Div, Rem}
+use Rattle.vx_base.specs.declared.arithmetic.Code.TheVariants.{Mov}
 use Rattle.vx_flow.specs.declared.graph.Bank.{Bank}
 use Rattle.vx_flow.specs.declared.graph.Bank.TheVariants.{General, Branch}
 use Rattle.vx_flow.specs.declared.graph.Block.{Block}
@@ -14,7 +14,7 @@ use Rattle.vx_flow.specs.declared.graph.Exit.{Exit}
 use Rattle.vx_flow.specs.declared.graph.Exit.TheVariants.{Goto, Split as Branches, Call, Return, Ends}
 use Rattle.vx_flow.specs.declared.graph.Graph.{Graph}
 use Rattle.vx_flow.specs.declared.graph.Op.{Op}
-use Rattle.vx_flow.specs.declared.graph.Op.TheVariants.{Compute, Select, Place, Load, Store, More, Input, Text, Decimal, Across, Base, PlaceIn}
+use Rattle.vx_flow.specs.declared.graph.Op.TheVariants.{Compute, Select, Place, Load, Store, Decimal, Across, PlaceIn}
 use Rattle.vx_flow.specs.declared.graph.Operand.{Operand}
 use Rattle.vx_flow.specs.declared.graph.Operand.TheVariants.{Held, Number, Stack}
 use Rattle.vx_flow.specs.Effects.{IsIn, is_unary, value_in, reads}
@@ -52,23 +52,7 @@ module _ (banks : List Bank) where
 
   right_below : (code : Code) (a b : Operand) → Below (value_in a) → is_right banks code b ≡ true → Below (if is_unary code then value_in a else value_in a ++ value_in b)
   right_below Mov a b f h = f
-  right_below Add a b f h = both_below (value_in a) (value_in b) f (operand_below b h)
-  right_below Sub a b f h = both_below (value_in a) (value_in b) f (operand_below b h)
-  right_below And a b f h = both_below (value_in a) (value_in b) f (operand_below b h)
-  right_below Or a b f h = both_below (value_in a) (value_in b) f (operand_below b h)
-  right_below Xor a b f h = both_below (value_in a) (value_in b) f (operand_below b h)
-  right_below Shl a b f h = both_below (value_in a) (value_in b) f (operand_below b h)
-  right_below Shr a b f h = both_below (value_in a) (value_in b) f (operand_below b h)
-  right_below Shru a b f h = both_below (value_in a) (value_in b) f (operand_below b h)
-  right_below Sh2add a b f h = both_below (value_in a) (value_in b) f (operand_below b h)
-  right_below Max a b f h = both_below (value_in a) (value_in b) f (operand_below b h)
-  right_below Min a b f h = both_below (value_in a) (value_in b) f (operand_below b h)
-  right_below (ToGeneral k) a b f h = both_below (value_in a) (value_in b) f (operand_below b h)
-  right_below (ToBranch k) a b f h = both_below (value_in a) (value_in b) f (operand_below b h)
-  right_below Mpylu a b f h = both_below (value_in a) (value_in b) f (operand_below b h)
-  right_below Mpyhs a b f h = both_below (value_in a) (value_in b) f (operand_below b h)
-  right_below Div a b f h = both_below (value_in a) (value_in b) f (operand_below b h)
-  right_below Rem a b f h = both_below (value_in a) (value_in b) f (operand_below b h)
+  right_below code a b f h = both_below (value_in a) (value_in b) f (operand_below b h)
 
   branch_below : (p : ℕ) → is_branch banks p ≡ true → Below (p ∷ [])
   branch_below p h v (inl e) = subst (λ z. z < length banks) (sym e) (bank_below banks p Branch h)
@@ -94,16 +78,13 @@ module _ (banks : List Bank) where
       let y = and_parts (nat_lt a n && is_operand banks p) (is_operand banks x) h in
       let z = and_parts (nat_lt a n) (is_operand banks p) y.0 in
       both_below (value_in p) (value_in x) (operand_below p z.1) (operand_below x y.1)
-  op_below n (More v) h = λ u q. absurd q
-  op_below n (Input v) h = λ u q. absurd q
-  op_below n (Text k) h = λ u q. absurd q
   op_below n (Decimal x) h = operand_below x h
   op_below n (Across v u) h = absurd (cc)
-  op_below n (Base v a x) h = λ u q. absurd q
   op_below n (PlaceIn v a u i) h =
       let x = and_parts (is_general banks v && nat_lt a n && is_general banks u) (is_operand banks i) h in
       let y = and_parts (is_general banks v && nat_lt a n) (is_general banks u) x.0 in
       both_below (value_in i) (u ∷ []) (operand_below i x.1) (general_below u y.1)
+  op_below n op h = λ u q. absurd q
 
   operands_below : (xs : List Operand) → list_all (is_operand banks) xs ≡ true → Below (flat_map value_in xs)
   operands_below [] h = λ v q. absurd q

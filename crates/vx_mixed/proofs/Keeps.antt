@@ -7,7 +7,7 @@ use Rattle.vx_base.specs.Timed.{asked_by, delayed}
 use Rattle.vx_base.specs.Outcome.{Begins}
 use Rattle.vx_base.proofs.Same.{begins_self, begins_on}
 use Rattle.vx_flow.specs.declared.graph.Op.{Op}
-use Rattle.vx_flow.specs.declared.graph.Op.TheVariants.{Compute, Select, Place, Load, Store, More, Input, Text, Decimal, Across, Base, PlaceIn}
+use Rattle.vx_flow.specs.declared.graph.Op.TheVariants.{Load, Store, Input, Text, Decimal}
 use Rattle.vx_flow.specs.declared.graph.Exit.{Exit}
 use Rattle.vx_flow.specs.declared.graph.Exit.TheVariants.{Goto, Split as Branch, Call, Return, Ends}
 use Rattle.vx_flow.specs.Effects.{Content, State, Setting, effect, is_one, loaded, stored, next_input, printed, held, cell_of, row_of, text_at}
@@ -60,18 +60,12 @@ module _ (xs : List ℕ) (n : ℕ) where
   printed_grows s t (Some m) h = begins_on xs s.out _ h (record { rest = signed_decimal m; is = refl })
 
   effect_grows : (setting : Setting) (s : State) (op : Op) (t : State) → Begins xs s.out → Begins xs t.out → Grown xs (effect setting s op t)
-  effect_grows setting s (Compute c v a b) t k h = h
-  effect_grows setting s (Select v p a b) t k h = h
-  effect_grows setting s (Place v a i) t k h = h
   effect_grows setting s (Load v a p d) t k h = loaded_grows t v (row_of s (setting.spot a)) (cell_of setting s a p) d h
   effect_grows setting s (Store a p x) t k h = stored_grows t (setting.spot a) (cell_of setting s a p) (held s x) h
-  effect_grows setting s (More v) t k h = h
   effect_grows setting s (Input v) t k h = input_grows t v s.input h
   effect_grows setting s (Text m) t k h = begins_on xs s.out _ k (record { rest = text_at setting m; is = refl })
   effect_grows setting s (Decimal x) t k h = printed_grows s t (held s x) k
-  effect_grows setting s (Across v u) t k h = h
-  effect_grows setting s (Base v a x) t k h = h
-  effect_grows setting s (PlaceIn v a u i) t k h = h
+  effect_grows setting s op t k h = h
 
   pub both_parts : (t : State) (o : Option State) → Grown xs o → Kept t o → length t.arrays ≡ n → GoodOr xs n o
   both_parts t None g k e = tt

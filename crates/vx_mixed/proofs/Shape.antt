@@ -4,7 +4,7 @@ use Rattle.std.proofs.lemmas.Bool.{cases_eq, cases_lt}
 use Rattle.std.proofs.lemmas.List.{get_or-set_same, get_or-set_other, set_past}
 use Rattle.vx_flow.specs.Effects.{Content, State, Setting, held, cell_in, row_of, with_value, with_cell, loaded, stored, next_input, printed, effect}
 use Rattle.vx_flow.specs.declared.graph.Op.{Op}
-use Rattle.vx_flow.specs.declared.graph.Op.TheVariants.{Compute, Select, Place, Load, Store, More, Input, Text, Decimal, Across, Base, PlaceIn}
+use Rattle.vx_flow.specs.declared.graph.Op.TheVariants.{Load, Store, Input, Text, Decimal}
 use Rattle.vx_mixed.specs.declared.region.Item.{Item}
 use Rattle.vx_mixed.specs.declared.region.Item.TheVariants.{Plain, Split}
 use Rattle.vx_mixed.specs.Meaning.{word_effect, into}
@@ -35,9 +35,6 @@ cell_kept u a i x = record {
 }
 
 pub effect_kept : (setting : Setting) (σ u : State) (op : Op) → Kept u (effect setting σ op u)
-effect_kept setting σ u (Compute c v a b) = value_kept u v _
-effect_kept setting σ u (Select v p a b) = value_kept u v _
-effect_kept setting σ u (Place v a i) = value_kept u v _
 effect_kept setting σ u (Load v a p d) = by (cell_in (length (row_of σ (setting.spot a))) (held σ p)) d
   where
     by : (o : Option ℕ) (d : Bool) → Kept u (loaded u v (row_of σ (setting.spot a)) o d)
@@ -50,7 +47,6 @@ effect_kept setting σ u (Store a p x) = by (cell_in (length (row_of σ (setting
     by None y = tt
     by (Some i) None = tt
     by (Some i) (Some n) = cell_kept u (setting.spot a) i (Some n)
-effect_kept setting σ u (More v) = value_kept u v _
 effect_kept setting σ u (Input v) = by σ.input
   where
     by : (ns : List ℤ) → Kept u (next_input u v ns)
@@ -62,9 +58,7 @@ effect_kept setting σ u (Decimal x) = by (held σ x)
     by : (y : Content) → Kept u (printed u σ.out y)
     by None = tt
     by (Some n) = record { arrays = refl; rows = λ a. refl }
-effect_kept setting σ u (Across v w) = value_kept u v _
-effect_kept setting σ u (Base v a x) = value_kept u v _
-effect_kept setting σ u (PlaceIn v a w i) = value_kept u v _
+effect_kept setting σ u op = value_kept u _ _
 
 pub word_kept : (setting : Setting) (σ u : State) (is : List Item) → Kept u (word_effect setting σ is u)
 word_kept setting σ u [] = same_shape u

@@ -9,7 +9,7 @@ use Rattle.vx_flow.specs.declared.graph.Edge.{Edge}
 use Rattle.vx_flow.specs.declared.graph.Exit.{Exit}
 use Rattle.vx_flow.specs.declared.graph.Exit.TheVariants.{Goto, Split as Branches, Call, Return, Ends}
 use Rattle.vx_flow.specs.declared.graph.Op.{Op}
-use Rattle.vx_flow.specs.declared.graph.Op.TheVariants.{Compute, Select, Place, Load, Store, More, Input, Text, Decimal, Across, Base, PlaceIn}
+use Rattle.vx_flow.specs.declared.graph.Op.TheVariants.{Across}
 use Rattle.vx_flow.specs.declared.trace.TraceOp.TheVariants.{Plain as TracePlain}
 use Rattle.vx_flow.specs.declared.trace.Join.{Join}
 use Rattle.vx_flow.specs.Effects.{IsIn, dismissed}
@@ -76,18 +76,8 @@ across_freed w above op v u e = by (list_any (λ s. nat_le w s) above) op e
   where
     by : (b : Bool) (op : Op) → Across v u ≡ (if b then dismissed op else op) → op ≡ Across v u
     by false op e = sym e
-    by true (Compute code z a b) e = absurd (cc)
-    by true (Select z p a b) e = absurd (cc)
-    by true (Place z a i) e = absurd (cc)
-    by true (Load z a p d) e = absurd (cc)
-    by true (Store a p x) e = absurd (cc)
-    by true (More z) e = absurd (cc)
-    by true (Input z) e = absurd (cc)
-    by true (Text n) e = absurd (cc)
-    by true (Decimal x) e = absurd (cc)
     by true (Across z y) e = sym e
-    by true (Base z a x) e = absurd (cc)
-    by true (PlaceIn z a u i) e = absurd (cc)
+    by true op e = absurd (cc)
 
 module _ (m : MixedGraph) (r : Replacement) (valid : Valid m) (c : CanReplace m r) (first : ℕ) (others : List ℕ) (blocks_are : r.trace.blocks ≡ first ∷ others) where
   abbrev New : MixedGraph

@@ -3,7 +3,7 @@ use Rattle.std.proofs.Common.{◌≡◌, ℕ, zero, suc, ◌<◌, ℤ, Bool, tru
 use Rattle.std.specs.Prelude.{◌⊎◌, slice_get, cond, not, if◌then◌else◌}
 use Rattle.vx_flow.specs.Effects.{Content, State, Setting, IsIn, is_one, without_meaning, effect, held, cell_in, row_of, loaded, dismissed, state_or}
 use Rattle.vx_flow.specs.declared.graph.Op.{Op}
-use Rattle.vx_flow.specs.declared.graph.Op.TheVariants.{Compute, Select, Place, Load, Store, More, Input, Text, Decimal, Across, Base, PlaceIn}
+use Rattle.vx_flow.specs.declared.graph.Op.TheVariants.{Load}
 use Rattle.vx_flow.specs.declared.graph.Exit.{Exit}
 use Rattle.vx_flow.specs.declared.graph.Exit.TheVariants.{Goto, Split as Branch, Call, Return, Ends}
 use Rattle.vx_mixed.specs.declared.region.Item.{Item}
@@ -140,23 +140,13 @@ module _ (setting : Setting) (times : List ℕ) (latency : Op → ℕ) (m : Mixe
 
 -- an operation that is not wrong does what it does calmly
 free_effect : (setting : Setting) (s t : State) (op : Op) → effect setting s op s ≡ Some t → effect setting s (dismissed op) s ≡ Some t
-free_effect setting s t (Compute c v a b) e = e
-free_effect setting s t (Select v p a b) e = e
-free_effect setting s t (Place v a i) e = e
 free_effect setting s t (Load v a p d) e = by (cell_in (length (row_of s (setting.spot a))) (held s p)) d e
   where
     by : (o : Option ℕ) (d : Bool) → loaded s v (row_of s (setting.spot a)) o d ≡ Some t → loaded s v (row_of s (setting.spot a)) o true ≡ Some t
     by None true f = f
     by None false f = none_is f
     by (Some i) d f = f
-free_effect setting s t (Store a p x) e = e
-free_effect setting s t (More v) e = e
-free_effect setting s t (Input v) e = e
-free_effect setting s t (Text n) e = e
-free_effect setting s t (Decimal x) e = e
-free_effect setting s t (Across v u) e = e
-free_effect setting s t (Base v a x) e = e
-free_effect setting s t (PlaceIn v a u i) e = e
+free_effect setting s t op e = e
 
 -- where the trace leaves: not at all, by its first split that leaves, or at its end
 pub how_it_ends : (setting : Setting) (is : List Item) (l : ℕ) (x : Exit) (s : State) (h : Hop) → trace_hop setting is l x s ≡ h → (h ≡ Wrong) ⊎ (((e : ℕ) × LeavesAt setting is s h e) ⊎ RunsOut setting is s h l x)

@@ -2,7 +2,7 @@
 use Rattle.std.proofs.Common.{◌≡◌, ℕ, zero, suc, ◌<◌, ◌≤◌, Bool, true, false, Option, Some, None, List, [], ◌∷◌, length, refl, sym, ◌∙◌, subst, ⊎_elim, arith}
 use Rattle.std.specs.Prelude.{◌⊎◌}
 use Rattle.std.proofs.lemmas.Bool.{cases_lt}
-use Rattle.vx_flow.specs.declared.graph.Op.TheVariants.{Compute, Select, Place, Load, Store, More, Input, Text, Decimal, Across, Base, PlaceIn}
+use Rattle.vx_flow.specs.declared.graph.Op.TheVariants.{Load, Store, More, Input, Text, Decimal}
 use Rattle.vx_flow.specs.Effects.{State, Setting, held, cell_in, cell_of, row_of, loaded, IsIn, Location, Of, Cell}
 use Rattle.vx_mixed.specs.declared.region.Item.{Item}
 use Rattle.vx_mixed.specs.declared.region.Item.TheVariants.{Plain, Split}
@@ -19,48 +19,28 @@ pub IsValue : Location → Type 0
 IsValue l = (v : ℕ) × (l ≡ Of v)
 
 pub takes_no_value : (setting : Setting) (s : State) (i : Item) (l : Location) (v : ℕ) → item_takes setting s i l → l ≡ Of v → ⊥
-takes_no_value setting s (Plain (Compute c w a b) cluster) l v h e = h
-takes_no_value setting s (Plain (Select w p a b) cluster) l v h e = h
-takes_no_value setting s (Plain (Place w a i) cluster) l v h e = h
 takes_no_value setting s (Plain (Load w a p d) cluster) l v k e = let h = cell_named (setting.spot a) (cell_of setting s a p) l k in let q : Of v ≡ Cell (setting.spot a) h.0 = sym e ∙ h.2 in cc
-takes_no_value setting s (Plain (Store a p x) cluster) l v h e = h
 takes_no_value setting s (Plain (More w) cluster) l v h e = cc
 takes_no_value setting s (Plain (Input w) cluster) l v h e = cc
 takes_no_value setting s (Plain (Text n) cluster) l v h e = cc
 takes_no_value setting s (Plain (Decimal x) cluster) l v h e = cc
-takes_no_value setting s (Plain (Across w u) cluster) l v h e = h
-takes_no_value setting s (Plain (Base w a x) cluster) l v h e = h
-takes_no_value setting s (Plain (PlaceIn w a u i) cluster) l v h e = h
+takes_no_value setting s (Plain op cluster) l v h e = h
 takes_no_value setting s (Split p y edge d) l v h e = h
 
 pub gives_no_value : (setting : Setting) (s : State) (i : Item) (l : Location) (v : ℕ) → item_gives setting s i l → l ≡ Of v → ⊥
-gives_no_value setting s (Plain (Compute c w a b) cluster) l v h e = h
-gives_no_value setting s (Plain (Select w p a b) cluster) l v h e = h
-gives_no_value setting s (Plain (Place w a i) cluster) l v h e = h
-gives_no_value setting s (Plain (Load w a p d) cluster) l v h e = h
 gives_no_value setting s (Plain (Store a p x) cluster) l v k e = let h = cell_named (setting.spot a) (cell_of setting s a p) l k in let q : Of v ≡ Cell (setting.spot a) h.0 = sym e ∙ h.2 in cc
-gives_no_value setting s (Plain (More w) cluster) l v h e = h
 gives_no_value setting s (Plain (Input w) cluster) l v h e = cc
 gives_no_value setting s (Plain (Text n) cluster) l v h e = cc
 gives_no_value setting s (Plain (Decimal x) cluster) l v h e = cc
-gives_no_value setting s (Plain (Across w u) cluster) l v h e = h
-gives_no_value setting s (Plain (Base w a x) cluster) l v h e = h
-gives_no_value setting s (Plain (PlaceIn w a u i) cluster) l v h e = h
+gives_no_value setting s (Plain op cluster) l v h e = h
 gives_no_value setting s (Split p y edge d) l v h e = h
 
 pub gives_firm : (setting : Setting) (s : State) (i : Item) (l : Location) → item_gives setting s i l → IsFirm i
-gives_firm setting s (Plain (Compute c w a b) cluster) l h = h
-gives_firm setting s (Plain (Select w p a b) cluster) l h = h
-gives_firm setting s (Plain (Place w a i) cluster) l h = h
-gives_firm setting s (Plain (Load w a p d) cluster) l h = h
 gives_firm setting s (Plain (Store a p x) cluster) l h = tt
-gives_firm setting s (Plain (More w) cluster) l h = h
 gives_firm setting s (Plain (Input w) cluster) l h = tt
 gives_firm setting s (Plain (Text n) cluster) l h = tt
 gives_firm setting s (Plain (Decimal x) cluster) l h = tt
-gives_firm setting s (Plain (Across w u) cluster) l h = h
-gives_firm setting s (Plain (Base w a x) cluster) l h = h
-gives_firm setting s (Plain (PlaceIn w a u i) cluster) l h = h
+gives_firm setting s (Plain op cluster) l h = h
 gives_firm setting s (Split p y edge d) l h = h
 
 same_value : (l : Location) (v u : ℕ) → l ≡ Of v → l ≡ Of u → u ≡ v
@@ -120,9 +100,6 @@ in_trace setting is s k l h =
     (cases_lt k (length is))
 
 pub harmless_is_safe : (setting : Setting) (s : State) (i : Item) → Harmless i → Safe setting s i
-harmless_is_safe setting s (Plain (Compute c v a b) cluster) h = (_, refl)
-harmless_is_safe setting s (Plain (Select v p a b) cluster) h = (_, refl)
-harmless_is_safe setting s (Plain (Place v a i) cluster) h = (_, refl)
 harmless_is_safe setting s (Plain (Load v a p d) cluster) h = by (cell_in (length (row_of s (setting.spot a))) (held s p)) d h
   where
     by : (o : Option ℕ) (d : Bool) → d ≡ true → (t : State) × (loaded s v (row_of s (setting.spot a)) o d ≡ Some t)
@@ -130,13 +107,9 @@ harmless_is_safe setting s (Plain (Load v a p d) cluster) h = by (cell_in (lengt
     by None false e = cc
     by (Some i) d e = (_, refl)
 harmless_is_safe setting s (Plain (Store a p x) cluster) h = absurd h
-harmless_is_safe setting s (Plain (More v) cluster) h = (_, refl)
 harmless_is_safe setting s (Plain (Input v) cluster) h = absurd h
-harmless_is_safe setting s (Plain (Text n) cluster) h = (_, refl)
 harmless_is_safe setting s (Plain (Decimal x) cluster) h = absurd h
-harmless_is_safe setting s (Plain (Across v u) cluster) h = (_, refl)
-harmless_is_safe setting s (Plain (Base v a x) cluster) h = (_, refl)
-harmless_is_safe setting s (Plain (PlaceIn v a u i) cluster) h = (_, refl)
+harmless_is_safe setting s (Plain op cluster) h = (_, refl)
 harmless_is_safe setting s (Split p y edge d) h = (s, refl)
 
 pub passes_is_safe : (setting : Setting) (s : State) (i : Item) → Passes setting s i → Safe setting s i

@@ -2,7 +2,7 @@
 use Rattle.std.proofs.Common.{◌≡◌, ℕ, zero, suc, Option, Some, None, List, [], ◌∷◌, length, refl, sym, ap, ◌∙◌, inl, inr}
 use Rattle.vx_flow.specs.Effects.{State, Setting, calm_effect, without_meaning, dismissed, cell_in, row_of, effect, IsCell, WritesAt, Location, Of, Cell, TheInput, TheOutput, at, state_or}
 use Rattle.vx_flow.specs.declared.graph.Op.{Op}
-use Rattle.vx_flow.specs.declared.graph.Op.TheVariants.{Compute, Select, Place, Load, Store, More, Input, Text, Decimal, Across, Base, PlaceIn}
+use Rattle.vx_flow.specs.declared.graph.Op.TheVariants.{Load, Input}
 use Rattle.vx_mixed.specs.declared.region.Item.{Item}
 use Rattle.vx_mixed.specs.declared.region.Item.TheVariants.{Plain, Split}
 use Rattle.vx_mixed.specs.Meaning.{word_effect}
@@ -27,18 +27,8 @@ or_kept u v None h k = h
 or_kept u v (Some t) h k = k
 
 without_kept : (op : Op) (s : State) → SameShape s (without_meaning op s)
-without_kept (Compute c v a b) s = same_shape s
-without_kept (Select v p a b) s = same_shape s
-without_kept (Place v a i) s = same_shape s
-without_kept (Load v a p d) s = same_shape s
-without_kept (Store a p x) s = same_shape s
-without_kept (More v) s = same_shape s
 without_kept (Input v) s = value_kept s v None
-without_kept (Text n) s = same_shape s
-without_kept (Decimal x) s = same_shape s
-without_kept (Across v u) s = same_shape s
-without_kept (Base v a x) s = same_shape s
-without_kept (PlaceIn v a u i) s = same_shape s
+without_kept op s = same_shape s
 
 pub calm_shape : (setting : Setting) (s : State) (i : Item) → SameShape s (calm setting s i)
 calm_shape setting s (Plain op cluster) = or_kept s (without_meaning op s) (effect setting s (dismissed op) s) (without_kept op s) (effect_kept setting s s (dismissed op))
@@ -73,32 +63,12 @@ calm_other : (setting : Setting) (s : State) (op : Op) (l : Location) → (Write
 calm_other setting s op l n = by (effect setting s (dismissed op) s) refl
   where
     all_marked : (op : Op) → Marked (Plain op 0) (Plain (dismissed op) 0)
-    all_marked (Compute c v a b) = as_it_is
-    all_marked (Select v p a b) = as_it_is
-    all_marked (Place v a i) = as_it_is
     all_marked (Load v a p d) = dismissible
-    all_marked (Store a p x) = as_it_is
-    all_marked (More v) = as_it_is
-    all_marked (Input v) = as_it_is
-    all_marked (Text n) = as_it_is
-    all_marked (Decimal x) = as_it_is
-    all_marked (Across v u) = as_it_is
-    all_marked (Base v a x) = as_it_is
-    all_marked (PlaceIn v a u i) = as_it_is
+    all_marked op = as_it_is
 
     without : (op : Op) → (WritesAt setting s op l → ⊥) → at (without_meaning op s) l ≡ at s l
-    without (Compute c v a b) m = refl
-    without (Select v p a b) m = refl
-    without (Place v a i) m = refl
-    without (Load v a p d) m = refl
-    without (Store a p x) m = refl
-    without (More v) m = refl
     without (Input v) m = value_else s v None l (λ e. m (inl (v, inl refl, e)))
-    without (Text k) m = refl
-    without (Decimal x) m = refl
-    without (Across v u) m = refl
-    without (Base v a x) m = refl
-    without (PlaceIn v a u i) m = refl
+    without op m = refl
 
     by : (o : Option State) → effect setting s (dismissed op) s ≡ o → at (state_or (without_meaning op s) o) l ≡ at s l
     by None e = without op n

@@ -5,7 +5,7 @@ use Rattle.std.specs.List.{filter, list_any}
 use Rattle.std.proofs.lemmas.Bool.{le-leb}
 use Rattle.vx_flow.specs.declared.graph.Edge.{Edge}
 use Rattle.vx_flow.specs.declared.graph.Op.{Op}
-use Rattle.vx_flow.specs.declared.graph.Op.TheVariants.{Compute, Select, Place, Load, Store, More, Input, Text, Decimal, Across, Base, PlaceIn}
+use Rattle.vx_flow.specs.declared.graph.Op.TheVariants.{Load}
 use Rattle.vx_flow.specs.declared.graph.Operand.{Operand}
 use Rattle.vx_flow.specs.declared.trace.TraceOp.{TraceOp}
 use Rattle.vx_flow.specs.declared.trace.TraceOp.TheVariants.{Plain as TracePlain, Split as TraceSplit}
@@ -71,18 +71,8 @@ numbers_many (suc n) w = ap suc (numbers_many n (w + 1))
 
 marked_freed : (b : Bool) (op : Op) (c : ℕ) → Marked (Plain op c) (Plain (if b then dismissed op else op) c)
 marked_freed false op c = as_it_is
-marked_freed true (Compute code v a b) c = as_it_is
-marked_freed true (Select v p a b) c = as_it_is
-marked_freed true (Place v a i) c = as_it_is
 marked_freed true (Load v a p d) c = dismissible
-marked_freed true (Store a p x) c = as_it_is
-marked_freed true (More v) c = as_it_is
-marked_freed true (Input v) c = as_it_is
-marked_freed true (Text k) c = as_it_is
-marked_freed true (Decimal x) c = as_it_is
-marked_freed true (Across v u) c = as_it_is
-marked_freed true (Base v a x) c = as_it_is
-marked_freed true (PlaceIn v a u i) c = as_it_is
+marked_freed true op c = as_it_is
 
 pub marked_at : (to : ℕ → ℕ → ℕ) (ops : List TraceOp) (cs ws ds above : List ℕ) → length cs ≡ length ops → length ws ≡ length ops → (k : ℕ) → Marked (nth (items_of ops cs) k) (nth (marks to ops cs ws ds above) k)
 marked_at to [] cs ws ds above e f k = as_it_is
@@ -101,18 +91,8 @@ any_above : (w s : ℕ) (above : List ℕ) → IsIn s above → w ≤ s → list
 any_above w s above h le = any_of (λ s. nat_le w s) above s h (le-leb w s le)
 
 dismissed_load : (op : Op) (v a c c' : ℕ) (p : Operand) (d : Bool) → Plain (dismissed op) c ≡ Plain (Load v a p d) c' → d ≡ true
-dismissed_load (Compute code v a b) v' a' c c' p' d' e = absurd (cc)
-dismissed_load (Select v p a b) v' a' c c' p' d' e = absurd (cc)
-dismissed_load (Place v a i) v' a' c c' p' d' e = absurd (cc)
 dismissed_load (Load v a p d) v' a' c c' p' d' e = let q : Load v a p true ≡ Load v' a' p' d' = cc in cc
-dismissed_load (Store a p x) v' a' c c' p' d' e = absurd (cc)
-dismissed_load (More v) v' a' c c' p' d' e = absurd (cc)
-dismissed_load (Input v) v' a' c c' p' d' e = absurd (cc)
-dismissed_load (Text k) v' a' c c' p' d' e = absurd (cc)
-dismissed_load (Decimal x) v' a' c c' p' d' e = absurd (cc)
-dismissed_load (Across v u) v' a' c c' p' d' e = absurd (cc)
-dismissed_load (Base v a x) v' a' c c' p' d' e = absurd (cc)
-dismissed_load (PlaceIn v a u i) v' a' c c' p' d' e = absurd (cc)
+dismissed_load op v' a' c c' p' d' e = absurd cc
 
 -- the word of a split that stood above, or the one at place e
 abbrev Above : List TraceOp → (cs ws above : List ℕ) (other s k : ℕ) → Type 0

@@ -2,7 +2,7 @@
 use Rattle.std.proofs.Common.{◌≡◌, ℕ, zero, suc, ◌+◌, ◌-◌, ◌<◌, ◌≤◌, Bool, true, List, length, drop, refl, sym, ◌∙◌, subst, ⊎_elim, inl, inr, arith, length-drop}
 use Rattle.std.specs.Prelude.{◌⊎◌}
 use Rattle.std.proofs.lemmas.Bool.{cases_lt, cases_Bool}
-use Rattle.vx_flow.specs.declared.graph.Op.TheVariants.{Compute, Select, Place, Load, Store, More, Input, Text, Decimal, Across, Base, PlaceIn}
+use Rattle.vx_flow.specs.declared.graph.Op.TheVariants.{Load, Store, More, Input, Text, Decimal}
 use Rattle.vx_flow.specs.declared.graph.Operand.{Operand}
 use Rattle.vx_flow.specs.Effects.{State, Setting, cell_of, IsIn, Location, Cell, TheInput, TheOutput}
 use Rattle.vx_mixed.specs.declared.region.Item.{Item}
@@ -20,33 +20,20 @@ use Rattle.vx_motion.proofs.Joins.{nth_drop}
 
 -- what gives or takes a cell, the input or the output
 gives_kind : (setting : Setting) (s : State) (i : Item) (l : Location) → item_gives setting s i l → ((a : ℕ) × (c : ℕ) × (l ≡ Cell a c) × IsStore i) ⊎ (((l ≡ TheInput) ⊎ (l ≡ TheOutput)) × IsObservable i)
-gives_kind setting s (Plain (Compute c v a b) cluster) l h = absurd h
-gives_kind setting s (Plain (Select v p a b) cluster) l h = absurd h
-gives_kind setting s (Plain (Place v a i) cluster) l h = absurd h
-gives_kind setting s (Plain (Load v a p d) cluster) l h = absurd h
 gives_kind setting s (Plain (Store a p x) cluster) l k = let h = cell_named (setting.spot a) (cell_of setting s a p) l k in inl (setting.spot a, h.0, h.2, tt)
-gives_kind setting s (Plain (More v) cluster) l h = absurd h
 gives_kind setting s (Plain (Input v) cluster) l h = inr (inl h, refl)
 gives_kind setting s (Plain (Text n) cluster) l h = inr (inr h, refl)
 gives_kind setting s (Plain (Decimal x) cluster) l h = inr (inr h, refl)
-gives_kind setting s (Plain (Across v u) cluster) l h = absurd h
-gives_kind setting s (Plain (Base v a x) cluster) l h = absurd h
-gives_kind setting s (Plain (PlaceIn v a u i) cluster) l h = absurd h
+gives_kind setting s (Plain op cluster) l h = absurd h
 gives_kind setting s (Split p y edge d) l h = absurd h
 
 takes_kind : (setting : Setting) (s : State) (i : Item) (l : Location) → item_takes setting s i l → ((a : ℕ) × (c : ℕ) × (l ≡ Cell a c) × IsLoad i) ⊎ (((l ≡ TheInput) ⊎ (l ≡ TheOutput)) × IsObservable i)
-takes_kind setting s (Plain (Compute c v a b) cluster) l h = absurd h
-takes_kind setting s (Plain (Select v p a b) cluster) l h = absurd h
-takes_kind setting s (Plain (Place v a i) cluster) l h = absurd h
 takes_kind setting s (Plain (Load v a p d) cluster) l k = let h = cell_named (setting.spot a) (cell_of setting s a p) l k in inl (setting.spot a, h.0, h.2, tt)
-takes_kind setting s (Plain (Store a p x) cluster) l h = absurd h
 takes_kind setting s (Plain (More v) cluster) l h = inr (inl h, refl)
 takes_kind setting s (Plain (Input v) cluster) l h = inr (inl h, refl)
 takes_kind setting s (Plain (Text n) cluster) l h = inr (inr h, refl)
 takes_kind setting s (Plain (Decimal x) cluster) l h = inr (inr h, refl)
-takes_kind setting s (Plain (Across v u) cluster) l h = absurd h
-takes_kind setting s (Plain (Base v a x) cluster) l h = absurd h
-takes_kind setting s (Plain (PlaceIn v a u i) cluster) l h = absurd h
+takes_kind setting s (Plain op cluster) l h = absurd h
 takes_kind setting s (Split p y edge d) l h = absurd h
 
 no_stream_cell : {A : Type 0} (l : Location) (a c : ℕ) → l ≡ Cell a c → ((l ≡ TheInput) ⊎ (l ≡ TheOutput)) → A
@@ -99,36 +86,22 @@ module _ (setting : Setting) (is : List Item) (latency : Item → ℕ) (live : �
       (cases_lt k (length is))
     where
       firm : (i : Item) → IsFirm i → IsStore i ⊎ IsObservable i
-      firm (Plain (Compute c v a b) cluster) h = absurd h
-      firm (Plain (Select v p a b) cluster) h = absurd h
-      firm (Plain (Place v a i) cluster) h = absurd h
-      firm (Plain (Load v a p d) cluster) h = absurd h
       firm (Plain (Store a p x) cluster) h = inl tt
-      firm (Plain (More v) cluster) h = absurd h
       firm (Plain (Input v) cluster) h = inr refl
       firm (Plain (Text n) cluster) h = inr refl
       firm (Plain (Decimal x) cluster) h = inr refl
-      firm (Plain (Across v u) cluster) h = absurd h
-      firm (Plain (Base v a x) cluster) h = absurd h
-      firm (Plain (PlaceIn v a u i) cluster) h = absurd h
+      firm (Plain op cluster) h = absurd h
       firm (Split p y edge d) h = absurd h
 
   early : (e k : ℕ) → e < k → IsSplit (nth is e) → word k ≤ word e → Harmless (mark k)
   early e k lt s le = by (nth is k) (mark k) (placed.marked k) (λ f. let h = held e k lt s f in omega arith) (λ v a cluster p d q. placed.freed e k v a cluster p d lt s le q)
     where
       by : (i i' : Item) → Marked i i' → (IsFirm i → ⊥) → ((v a cluster : ℕ) (p : Operand) (d : Bool) → i' ≡ Plain (Load v a p d) cluster → d ≡ true) → Harmless i'
-      by i i' (as_it_is {op = Compute c v a b}) n f = tt
-      by i i' (as_it_is {op = Select v p a b}) n f = tt
-      by i i' (as_it_is {op = Place v a x}) n f = tt
       by i i' (as_it_is {op = Load v a p d} {cluster' = cluster}) n f = f v a cluster p d refl
       by i i' (as_it_is {op = Store a p x}) n f = n tt
-      by i i' (as_it_is {op = More v}) n f = tt
       by i i' (as_it_is {op = Input v}) n f = n tt
-      by i i' (as_it_is {op = Text z}) n f = tt
       by i i' (as_it_is {op = Decimal x}) n f = n tt
-      by i i' (as_it_is {op = Across v u}) n f = tt
-      by i i' (as_it_is {op = Base v a x}) n f = tt
-      by i i' (as_it_is {op = PlaceIn v a w x}) n f = tt
+      by i i' (as_it_is {op = o}) n f = tt
       by i i' dismissible n f = refl
       by i i' split n f = tt
 

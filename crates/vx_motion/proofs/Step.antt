@@ -1,16 +1,16 @@
 -- One item of a word does what it does in trace order, where what it reads is as in trace order.
-use Rattle.std.proofs.Common.{◌≡◌, ℕ, ◌<◌, ℤ, pos, Bool, true, false, Option, Some, None, List, [], ◌∷◌, ◌++◌, length, slice_index_or, refl, sym, ap, ◌∙◌, subst, ⊎_elim, inl, inr}
+use Rattle.std.proofs.Common.{◌≡◌, ℕ, ◌<◌, ℤ, Bool, true, false, Option, Some, None, List, [], ◌∷◌, ◌++◌, length, slice_index_or, refl, sym, ap, ◌∙◌, subst, ⊎_elim, inl, inr}
 use Rattle.std.specs.Fmt.{signed_decimal}
-use Rattle.vx_base.specs.Arithmetic.{one_if}
-use Rattle.vx_flow.specs.Effects.{Content, State, Setting, effect, calm_effect, held, computed, chosen, place_of, place_by, cell_in, row_of, with_value, with_cell, loaded, stored, next_input, printed, is_left, text_at, value_in, reads, writes, IsIn, Location, Of, Cell, TheInput, TheOutput, Holds, Left, Printed, at, state_or, ReadsAt, WritesAt}
+use Rattle.vx_flow.specs.Effects.{Content, State, Setting, effect, calm_effect, held, cell_in, row_of, with_value, with_cell, loaded, stored, next_input, printed, text_at, value_in, reads, writes, IsIn, Location, Of, Cell, TheInput, TheOutput, Holds, Left, Printed, at, state_or, ReadsAt, WritesAt}
 use Rattle.vx_flow.specs.declared.graph.Op.{Op}
-use Rattle.vx_flow.specs.declared.graph.Op.TheVariants.{Compute, Select, Place, Load, Store, More, Input, Text, Decimal, Across, Base, PlaceIn}
+use Rattle.vx_flow.specs.declared.graph.Op.TheVariants.{Load, Store, Input, Text, Decimal}
 use Rattle.vx_flow.specs.declared.graph.Operand.{Operand}
+use Rattle.vx_flow.proofs.EffectsAlike.{content, content_refined}
 use Rattle.vx_mixed.specs.declared.region.Item.{Item}
 use Rattle.vx_motion.specs.Items.{Fine, item_effect, calm, Reads, Writes, Marked, as_it_is, dismissible, split, Safe}
 use Rattle.vx_mixed.specs.Agree.{SameShape}
 use Rattle.vx_motion.proofs.Effect.{grows, value_there, value_else, does_value, one_write, Row, got, loaded_free, inside, cell_there, cell_else, cell_shape, stored_is, input_is, printed_is, left_inj, printed_inj, cell_named, names_cell}
-use Rattle.vx_mixed.proofs.Contents.{Grows, none_is, in_append, grows_held, grows_computed, grows_chosen, grows_place, grows_place_by, same_shape, cell_from, left_read, right_read}
+use Rattle.vx_mixed.proofs.Contents.{Grows, none_is, in_append, grows_held, same_shape, cell_from}
 use Rattle.vx_motion.proofs.Does.{Does}
 
 abbrev pub cell : State → ℕ → ℕ → Content
@@ -146,42 +146,19 @@ module _ (setting : Setting) (s σ u : State) (hs : SameShape s σ) (hu : SameSh
           )
 
   pub by_op : (op : Op) → OpSafe op → Well op → Result op op
-  by_op (Compute code v a b) safe well =
-      let ga = operand (Compute code v a b) a well (left_read code v a b) in (
-        with_value u v (computed code (held σ a) (held σ b)),
-        refl,
-        only_value (Compute code v a b) v (computed code (held s a) (held s b)) (computed code (held σ a) (held σ b)) refl (λ l w. ⊎_elim (λ h. one_write v h.0 l h.1 h.2) (λ h. absurd h) w) refl
-            (grows_computed code (held s a) (held s b) (held σ a) (held σ b) ga (λ two. operand (Compute code v a b) b well (right_read code v a b two))),
-      )
-  by_op (Select v p a b) safe well =
-      let gp = read (Select v p a b) p well (inl refl) in
-      let ga = operand (Select v p a b) a well (λ w r. inr (in_append w (value_in a) (value_in b) (inl r))) in
-      let gb = operand (Select v p a b) b well (λ w r. inr (in_append w (value_in a) (value_in b) (inr r))) in
-      (with_value u v (chosen (σ.values p) (held σ a) (held σ b)), refl, only_value (Select v p a b) v (chosen (s.values p) (held s a) (held s b)) (chosen (σ.values p) (held σ a) (held σ b)) refl (λ l w. ⊎_elim (λ h. one_write v h.0 l h.1 h.2) (λ h. absurd h) w) refl (grows_chosen (s.values p) (held s a) (held s b) (σ.values p) (held σ a) (held σ b) gp ga gb))
-  by_op (Place v a i) safe well =
-      let gi = operand (Place v a i) i well (λ w r. r) in
-      (with_value u v (place_of (held σ i)), refl, only_value (Place v a i) v (place_of (held s i)) (place_of (held σ i)) refl (λ l w. ⊎_elim (λ h. one_write v h.0 l h.1 h.2) (λ h. absurd h) w) refl (grows_place (held s i) (held σ i) gi))
   by_op (Load v a p d) safe well = load v a p d d safe well
   by_op (Store a p x) safe well = store a p x safe well
-  by_op (More v) safe well =
-      let same : Left σ.input ≡ Left s.input = well TheInput (inr refl) in
-      let e : σ.input ≡ s.input = left_inj σ.input s.input same in
-      (with_value u v (Some (one_if (is_left σ.input))), refl, only_value (More v) v (Some (one_if (is_left s.input))) (Some (one_if (is_left σ.input))) refl (λ l w. ⊎_elim (λ h. one_write v h.0 l h.1 h.2) (λ h. absurd h) w) refl (λ n h. ap (λ z. Some (one_if (is_left z))) e ∙ h))
   by_op (Input v) safe well = take v safe well
   by_op (Text n) safe well =
       let same : Printed σ.out ≡ Printed s.out = well TheOutput (inr refl) in
       (record u { out = σ.out ++ text_at setting n }, refl, prints (Text n) (text_at setting n) (λ l w. ⊎_elim (λ h. absurd h.1) (λ h. h) w) (inr refl) refl (printed_inj σ.out s.out same))
   by_op (Decimal x) safe well = show x safe well
-  by_op (Across v w) safe well =
-      let g = read (Across v w) w well (inl refl) in
-      (with_value u v (σ.values w), refl, only_value (Across v w) v (s.values w) (σ.values w) refl (λ l w. ⊎_elim (λ h. one_write v h.0 l h.1 h.2) (λ h. absurd h) w) refl g)
-  by_op (Base v b x) safe well =
-      let c : Content = Some (pos (setting.spot b)) in
-      (with_value u v c, refl, only_value (Base v b x) v c c refl (λ l w. ⊎_elim (λ h. one_write v h.0 l h.1 h.2) (λ h. absurd h) w) refl (λ n h. h))
-  by_op (PlaceIn v a b i) safe well =
-      let gb = read (PlaceIn v a b i) b well (in_append b (value_in i) (b ∷ []) (inr (inl refl))) in
-      let gi = operand (PlaceIn v a b i) i well (λ w r. in_append w (value_in i) (b ∷ []) (inl r)) in
-      (with_value u v (place_by (σ.values b) (held σ i)), refl, only_value (PlaceIn v a b i) v (place_by (s.values b) (held s i)) (place_by (σ.values b) (held σ i)) refl (λ l w. ⊎_elim (λ h. one_write v h.0 l h.1 h.2) (λ h. absurd h) w) refl (grows_place_by (s.values b) (σ.values b) (held s i) (held σ i) gb gi))
+  by_op op safe well = (
+    with_value u _ (content setting σ op),
+    refl,
+    only_value op _ (content setting s op) (content setting σ op) refl (λ l w. ⊎_elim (λ h. one_write _ h.0 l h.1 h.2) (λ h. absurd h) w) refl
+        (content_refined setting op s σ (λ v h. read op v well h) (λ r. left_inj σ.input s.input (well TheInput (inr r)))),
+  )
 
   pub step : (i i' : Item) → Marked i i' → Safe setting s i' → ((l : Location) → Reads setting s i l → Fine l (at s l) (at σ l)) → (u' : State) × (item_effect setting σ i' u ≡ Some u') × Does (Writes setting s i) (calm setting s i) u u'
   step i i' (as_it_is {op}) safe well = by_op op safe well

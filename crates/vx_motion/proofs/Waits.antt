@@ -4,7 +4,7 @@ use Rattle.std.specs.Prelude.{◌⊎◌, slice_get}
 use Rattle.std.proofs.lemmas.Bool.{cases_eq, cases_order, eq-eqb, ne_eqb}
 use Rattle.vx_flow.specs.declared.graph.Edge.{Edge}
 use Rattle.vx_flow.specs.declared.graph.Op.{Op}
-use Rattle.vx_flow.specs.declared.graph.Op.TheVariants.{Compute, Select, Place, Load, Store, More, Input, Text, Decimal, Across, Base, PlaceIn}
+use Rattle.vx_flow.specs.declared.graph.Op.TheVariants.{Store, Text, Decimal}
 use Rattle.vx_mixed.specs.declared.region.Item.{Item}
 use Rattle.vx_mixed.specs.declared.region.Item.TheVariants.{Plain, Split}
 use Rattle.vx_mixed.specs.declared.region.Region.{Region}
@@ -51,18 +51,10 @@ time_same latency loads i i' (dismissible {v} {a} {p = p} {d = d}) = loads v a p
 time_same latency loads i i' split = refl
 
 at_most_one : (i : Item) → (item_writes i ≡ []) ⊎ ((v : ℕ) × (item_writes i ≡ v ∷ []))
-at_most_one (Plain (Compute c v a b) cluster) = inr (v, refl)
-at_most_one (Plain (Select v p a b) cluster) = inr (v, refl)
-at_most_one (Plain (Place v a i) cluster) = inr (v, refl)
-at_most_one (Plain (Load v a p d) cluster) = inr (v, refl)
 at_most_one (Plain (Store a p x) cluster) = inl refl
-at_most_one (Plain (More v) cluster) = inr (v, refl)
-at_most_one (Plain (Input v) cluster) = inr (v, refl)
 at_most_one (Plain (Text n) cluster) = inl refl
 at_most_one (Plain (Decimal x) cluster) = inl refl
-at_most_one (Plain (Across v u) cluster) = inr (v, refl)
-at_most_one (Plain (Base v a x) cluster) = inr (v, refl)
-at_most_one (Plain (PlaceIn v a u i) cluster) = inr (v, refl)
+at_most_one (Plain op cluster) = inr (_, refl)
 at_most_one (Split p y edge d) = inl refl
 
 places_low : (word : ℕ → ℕ) (w k m j : ℕ) → IsIn j (places word w k m) → k ≤ j

@@ -3,7 +3,7 @@ use Rattle.std.proofs.Common.{◌≡◌, ℕ, suc, Option, Some, None, List, [],
 use Rattle.std.specs.Prelude.{◌⊎◌}
 use Rattle.std.proofs.lemmas.Bool.{cases_eq}
 use Rattle.vx_flow.specs.declared.graph.Op.{Op}
-use Rattle.vx_flow.specs.declared.graph.Op.TheVariants.{Compute, Select, Place, Load, Store, More, Input, Text, Decimal, Across, Base, PlaceIn}
+use Rattle.vx_flow.specs.declared.graph.Op.TheVariants.{Store, Input, Text, Decimal}
 use Rattle.vx_flow.specs.Effects.{State, Setting, cell_of, IsCell, WritesBesides, IsIn, Location, Of, Cell, TheInput, TheOutput, at}
 use Rattle.vx_mixed.specs.declared.region.Item.{Item}
 use Rattle.vx_mixed.specs.declared.region.Item.TheVariants.{Plain, Split}
@@ -50,18 +50,11 @@ names_or a None l = inr (λ h. h)
 names_or a (Some i) l = loc_eq l (Cell a i)
 
 gives_or : (setting : Setting) (s : State) (op : Op) (l : Location) → WritesBesides setting s op l ⊎ (WritesBesides setting s op l → ⊥)
-gives_or setting s (Compute c v a b) l = inr (λ h. h)
-gives_or setting s (Select v p a b) l = inr (λ h. h)
-gives_or setting s (Place v a i) l = inr (λ h. h)
-gives_or setting s (Load v a p d) l = inr (λ h. h)
 gives_or setting s (Store a p x) l = names_or (setting.spot a) (cell_of setting s a p) l
-gives_or setting s (More v) l = inr (λ h. h)
 gives_or setting s (Input v) l = loc_eq l TheInput
 gives_or setting s (Text n) l = loc_eq l TheOutput
 gives_or setting s (Decimal x) l = loc_eq l TheOutput
-gives_or setting s (Across v u) l = inr (λ h. h)
-gives_or setting s (Base v a x) l = inr (λ h. h)
-gives_or setting s (PlaceIn v a u i) l = inr (λ h. h)
+gives_or setting s op l = inr (λ h. h)
 
 item_gives_or : (setting : Setting) (s : State) (i : Item) (l : Location) → item_gives setting s i l ⊎ (item_gives setting s i l → ⊥)
 item_gives_or setting s (Plain op cluster) l = gives_or setting s op l

@@ -6,7 +6,7 @@ use Rattle.vx_flow.specs.declared.graph.Exit.{Exit}
 use Rattle.vx_flow.specs.declared.graph.Exit.TheVariants.{Goto, Split as Branches, Call, Return, Ends}
 use Rattle.vx_flow.specs.declared.graph.Graph.{Graph}
 use Rattle.vx_flow.specs.declared.graph.Op.{Op}
-use Rattle.vx_flow.specs.declared.graph.Op.TheVariants.{Compute, Select, Place, Load, Store, More, Input, Text, Decimal, Across, Base, PlaceIn}
+use Rattle.vx_flow.specs.declared.graph.Op.TheVariants.{Select, More, Input, Across}
 use Rattle.vx_flow.specs.declared.trace.TraceOp.{TraceOp}
 use Rattle.vx_flow.specs.declared.trace.TraceOp.TheVariants.{Plain as TracePlain, Split as TraceSplit}
 use Rattle.vx_flow.specs.declared.trace.Join.{Join}
@@ -38,21 +38,13 @@ use Rattle.vx_region.proofs.TracePlaces.{PlaceIn as PlacedIn, of_block, of_split
 
 -- what is bound to cluster 0 is what a choice writes, or what comes from the input
 bound_is : (op : TraceOp) (v : ℕ) → IsIn v (bound_writes op) → (o : Op) × (op ≡ TracePlain o) × (binds o ≡ Some v)
-bound_is (TracePlain (Compute code w a b)) v h = absurd h
 bound_is (TracePlain (Select w p a b)) v (inl e) = (Select w p a b, refl, ap Some (sym e))
 bound_is (TracePlain (Select w p a b)) v (inr h) = absurd h
-bound_is (TracePlain (Place w a i)) v h = absurd h
-bound_is (TracePlain (Load w a p d)) v h = absurd h
-bound_is (TracePlain (Store a p x)) v h = absurd h
 bound_is (TracePlain (More w)) v (inl e) = (More w, refl, ap Some (sym e))
 bound_is (TracePlain (More w)) v (inr h) = absurd h
 bound_is (TracePlain (Input w)) v (inl e) = (Input w, refl, ap Some (sym e))
 bound_is (TracePlain (Input w)) v (inr h) = absurd h
-bound_is (TracePlain (Text n)) v h = absurd h
-bound_is (TracePlain (Decimal x)) v h = absurd h
-bound_is (TracePlain (Across w u)) v h = absurd h
-bound_is (TracePlain (Base w a x)) v h = absurd h
-bound_is (TracePlain (PlaceIn w a u i)) v h = absurd h
+bound_is (TracePlain op) v h = absurd h
 bound_is (TraceSplit p y e live) v h = absurd h
 
 -- a list of clusters

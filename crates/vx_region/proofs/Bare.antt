@@ -1,7 +1,7 @@
 -- Clusters change nothing of what items do in trace order, nor of the delays between them.
 use Rattle.std.proofs.Common.{◌≡◌, ◌⊎◌, inl, inr, ℕ, zero, suc, ◌<◌, Bool, List, [], ◌∷◌, length, map, drop, refl, sym, ap, ◌∙◌, subst}
 use Rattle.vx_flow.specs.declared.graph.Op.{Op}
-use Rattle.vx_flow.specs.declared.graph.Op.TheVariants.{Compute, Select, Place, Load, Store, More, Input, Text, Decimal, Across, Base, PlaceIn}
+use Rattle.vx_flow.specs.declared.graph.Op.TheVariants.{Compute}
 use Rattle.vx_flow.specs.declared.trace.TraceOp.{TraceOp}
 use Rattle.vx_flow.specs.declared.trace.TraceOp.TheVariants.{Plain as TracePlain, Split as TraceSplit}
 use Rattle.vx_flow.specs.Effects.{State, Setting, Cell, IsIn}
@@ -76,32 +76,12 @@ bare_split (Split p y edge d) h = h
 
 bare_load : (i : Item) → IsLoad i → IsLoad (bare i)
 bare_load (Plain (Compute c v a b) cluster) h = h
-bare_load (Plain (Select v p a b) cluster) h = h
-bare_load (Plain (Place v a i) cluster) h = h
-bare_load (Plain (Load v a p d) cluster) h = h
-bare_load (Plain (Store a p x) cluster) h = h
-bare_load (Plain (More v) cluster) h = h
-bare_load (Plain (Input v) cluster) h = h
-bare_load (Plain (Text n) cluster) h = h
-bare_load (Plain (Decimal x) cluster) h = h
-bare_load (Plain (Across v u) cluster) h = h
-bare_load (Plain (Base v a x) cluster) h = h
-bare_load (Plain (PlaceIn v a u i) cluster) h = h
+bare_load (Plain op cluster) h = h
 bare_load (Split p y edge d) h = h
 
 bare_store : (i : Item) → IsStore i → IsStore (bare i)
 bare_store (Plain (Compute c v a b) cluster) h = h
-bare_store (Plain (Select v p a b) cluster) h = h
-bare_store (Plain (Place v a i) cluster) h = h
-bare_store (Plain (Load v a p d) cluster) h = h
-bare_store (Plain (Store a p x) cluster) h = h
-bare_store (Plain (More v) cluster) h = h
-bare_store (Plain (Input v) cluster) h = h
-bare_store (Plain (Text n) cluster) h = h
-bare_store (Plain (Decimal x) cluster) h = h
-bare_store (Plain (Across v u) cluster) h = h
-bare_store (Plain (Base v a x) cluster) h = h
-bare_store (Plain (PlaceIn v a u i) cluster) h = h
+bare_store (Plain op cluster) h = h
 bare_store (Split p y edge d) h = h
 
 bare_observable : (i : Item) → IsObservable i → IsObservable (bare i)

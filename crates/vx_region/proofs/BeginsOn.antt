@@ -7,7 +7,7 @@ use Rattle.vx_flow.specs.declared.graph.Block.{Block}
 use Rattle.vx_flow.specs.declared.graph.Edge.{Edge}
 use Rattle.vx_flow.specs.declared.graph.Graph.{Graph}
 use Rattle.vx_flow.specs.declared.graph.Op.{Op}
-use Rattle.vx_flow.specs.declared.graph.Op.TheVariants.{Compute, Select, Place, Load, Store, More, Input, Text, Decimal, Across, Base, PlaceIn}
+use Rattle.vx_flow.specs.declared.graph.Op.TheVariants.{Select, More, Input}
 use Rattle.vx_flow.specs.Effects.{IsIn, reads, writes}
 use Rattle.vx_flow.specs.Sound.{HasOperation, Sound, is_sound, is_general, is_sound_operation, is_sound_exit, is_sound_in, is_sound_block, is_kept, is_access_placed, bank_written}
 use Rattle.vx_flow.specs.Operands.{binds}
@@ -45,18 +45,10 @@ or_true false = refl
 
 -- what is bound is written
 binds_written : (op : Op) (v : ℕ) → binds op ≡ Some v → IsIn v (writes op)
-binds_written (Compute code w a b) v e = absurd (cc)
 binds_written (Select w p a b) v e = let q : v ≡ w = cc in inl q
-binds_written (Place w a i) v e = absurd (cc)
-binds_written (Load w a p d) v e = absurd (cc)
-binds_written (Store a p x) v e = absurd (cc)
 binds_written (More w) v e = let q : v ≡ w = cc in inl q
 binds_written (Input w) v e = let q : v ≡ w = cc in inl q
-binds_written (Text n) v e = absurd (cc)
-binds_written (Decimal x) v e = absurd (cc)
-binds_written (Across w u) v e = absurd (cc)
-binds_written (Base w a x) v e = absurd (cc)
-binds_written (PlaceIn w a u i) v e = absurd (cc)
+binds_written op v e = absurd cc
 
 module _ (graph : Graph) (m : MixedGraph) (sound_test : is_sound graph ≡ true) (from : FromGraph graph m) where
   sound : Sound graph

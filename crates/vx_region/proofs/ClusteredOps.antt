@@ -6,19 +6,19 @@ use Rattle.std.proofs.Math.Nat.{mod-eq_of_lt, mul_comm, mul-add-mod_self_right, 
 use Rattle.std.proofs.lemmas.Bool.{lt-ltb, le-ltb, cases_lt, eq-eqb}
 use Rattle.std.proofs.lemmas.Nat.{div-mul-add, mul-add-lt}
 use Rattle.vx_base.specs.declared.arithmetic.Code.{Code}
-use Rattle.vx_base.specs.declared.arithmetic.Code.TheVariants.{Add, Sub, And, Or, Xor, Shl, Shr, Shru, Sh2add, Max, Min, Mov, ToGeneral, ToBranch, Mpylu, Mpyhs, Div, Rem}
+use Rattle.vx_base.specs.declared.arithmetic.Code.TheVariants.{ToBranch}
 use Rattle.vx_flow.specs.declared.graph.Bank.{Bank}
 use Rattle.vx_flow.specs.declared.graph.Bank.TheVariants.{General, Branch}
 use Rattle.vx_flow.specs.declared.graph.Graph.{Graph}
 use Rattle.vx_flow.specs.declared.graph.Op.{Op}
-use Rattle.vx_flow.specs.declared.graph.Op.TheVariants.{Compute, Select, Place, Load, Store, More, Input, Text, Decimal, Across, Base, PlaceIn}
+use Rattle.vx_flow.specs.declared.graph.Op.TheVariants.{Compute, Select, Load, More, Input, Across, PlaceIn}
 use Rattle.vx_flow.specs.declared.graph.Operand.{Operand}
 use Rattle.vx_flow.specs.declared.graph.Operand.TheVariants.{Held, Number, Stack}
 use Rattle.vx_flow.specs.declared.trace.TraceOp.{TraceOp}
 use Rattle.vx_flow.specs.declared.trace.TraceOp.TheVariants.{Plain as TracePlain, Split as TraceSplit}
 use Rattle.vx_flow.specs.declared.trace.Trace.{Trace}
 use Rattle.vx_flow.specs.Effects.{IsIn, is_unary, dismissed, reads, writes}
-use Rattle.vx_flow.specs.Operands.{binds, with_value_in}
+use Rattle.vx_flow.specs.Operands.{binds, with_value_in, first_operand, second_operand, with_two}
 use Rattle.vx_flow.specs.Sound.{bank_written, tests_of, Sound}
 use Rattle.vx_flow.proofs.Members.{in_left, in_right, in_either}
 use Rattle.vx_flow.proofs.SoundLaw.{sound_is}
@@ -39,7 +39,8 @@ use Rattle.vx_bug.specs.Clusters.{general_reads, general_writes, is_bound, is_ac
 use Rattle.vx_bug.specs.Copies.{copy_of, is_away, here, renamed, renamed_op}
 use Rattle.vx_bug.proofs.Best.{four_clusters}
 use Rattle.vx_region.specs.AtHome.{IsAtHome, CopiesAtHome, StandsFor, copies, stays, renames, StandsWell, AllStand}
-use Rattle.vx_region.proofs.Fresh.{InPlace, renamed_read, renamed_writes}
+use Rattle.vx_region.proofs.Fresh.{renamed_read, renamed_writes}
+use Rattle.vx_region.proofs.Renamed.{IsNamed}
 use Rattle.vx_region.specs.Regions.{IsCopyAway, IsGraphOf}
 use Rattle.vx_region.proofs.Assignable.{names_below}
 use Rattle.vx_region.proofs.PlanOps.{is_op}
@@ -94,111 +95,38 @@ stands_home m copied v k e = by (cases_lt v (length m.banks))
 -- operations
 
 no_across_read : (op : Op) (v : ℕ) → IsIn v (read_there op) → (is_across (TracePlain op) ≡ false) × IsIn v (reads op)
-no_across_read (Compute code w a b) v h = (refl, h)
-no_across_read (Select w p a b) v h = (refl, h)
-no_across_read (Place w a i) v h = (refl, h)
-no_across_read (Load w a p d) v h = (refl, h)
-no_across_read (Store a p x) v h = (refl, h)
-no_across_read (More w) v h = (refl, h)
-no_across_read (Input w) v h = (refl, h)
-no_across_read (Text n) v h = (refl, h)
-no_across_read (Decimal x) v h = (refl, h)
 no_across_read (Across w u) v h = absurd h
-no_across_read (Base w a x) v h = (refl, h)
-no_across_read (PlaceIn w a u i) v h = (refl, h)
+no_across_read op v h = (refl, h)
 
 tests_bound : (op : Op) (v : ℕ) → IsIn v (tests_of op) → is_bound (TracePlain op) ≡ true
 tests_bound (Select w p a b) v h = refl
-tests_bound (Compute code w a b) v h = absurd h
-tests_bound (Place w a i) v h = absurd h
-tests_bound (Load w a p d) v h = absurd h
-tests_bound (Store a p x) v h = absurd h
-tests_bound (More w) v h = absurd h
-tests_bound (Input w) v h = absurd h
-tests_bound (Text n) v h = absurd h
-tests_bound (Decimal x) v h = absurd h
-tests_bound (Across w u) v h = absurd h
-tests_bound (Base w a x) v h = absurd h
-tests_bound (PlaceIn w a u i) v h = absurd h
+tests_bound op v h = absurd h
 
 -- what is written is a general value, or a branch value on cluster 0
 code_written : (code : Code) (w : ℕ) (a b : Operand) (v : ℕ) → IsIn v (w ∷ []) → (IsIn v (general_writes (TracePlain (Compute code w a b))) × (bank_written (Compute code w a b) ≡ General)) ⊎ ((is_bound (TracePlain (Compute code w a b)) ≡ true) × (bank_written (Compute code w a b) ≡ Branch))
 code_written (ToBranch c) w a b v h = inr (refl, refl)
-code_written Add w a b v h = inl (h, refl)
-code_written Sub w a b v h = inl (h, refl)
-code_written And w a b v h = inl (h, refl)
-code_written Or w a b v h = inl (h, refl)
-code_written Xor w a b v h = inl (h, refl)
-code_written Shl w a b v h = inl (h, refl)
-code_written Shr w a b v h = inl (h, refl)
-code_written Shru w a b v h = inl (h, refl)
-code_written Sh2add w a b v h = inl (h, refl)
-code_written Max w a b v h = inl (h, refl)
-code_written Min w a b v h = inl (h, refl)
-code_written Mov w a b v h = inl (h, refl)
-code_written (ToGeneral c) w a b v h = inl (h, refl)
-code_written Mpylu w a b v h = inl (h, refl)
-code_written Mpyhs w a b v h = inl (h, refl)
-code_written Div w a b v h = inl (h, refl)
-code_written Rem w a b v h = inl (h, refl)
+code_written code w a b v h = inl (h, refl)
 
 written : (op : Op) (v : ℕ) → IsIn v (writes op) → (IsIn v (general_writes (TracePlain op)) × (bank_written op ≡ General)) ⊎ ((is_bound (TracePlain op) ≡ true) × (bank_written op ≡ Branch))
 written (Compute code w a b) v h = code_written code w a b v h
-written (Select w p a b) v h = inl (h, refl)
-written (Place w a i) v h = inl (h, refl)
-written (Load w a p d) v h = inl (h, refl)
-written (Store a p x) v h = absurd h
-written (More w) v h = inl (h, refl)
-written (Input w) v h = inl (h, refl)
-written (Text n) v h = absurd h
-written (Decimal x) v h = absurd h
-written (Across w u) v h = inl (h, refl)
-written (Base w a x) v h = inl (h, refl)
-written (PlaceIn w a u i) v h = inl (h, refl)
+written op v h = inl (h, refl)
 
 -- what is bound is written, by an operation on cluster 0
 bound_written : (op : Op) (v : ℕ) → binds op ≡ Some v → IsIn v (general_writes (TracePlain op)) × (is_bound (TracePlain op) ≡ true)
-bound_written (Compute code w a b) v e = absurd (cc)
 bound_written (Select w p a b) v e = let q : v ≡ w = cc in (inl q, refl)
-bound_written (Place w a i) v e = absurd (cc)
-bound_written (Load w a p d) v e = absurd (cc)
-bound_written (Store a p x) v e = absurd (cc)
 bound_written (More w) v e = let q : v ≡ w = cc in (inl q, refl)
 bound_written (Input w) v e = let q : v ≡ w = cc in (inl q, refl)
-bound_written (Text n) v e = absurd (cc)
-bound_written (Decimal x) v e = absurd (cc)
-bound_written (Across w u) v e = absurd (cc)
-bound_written (Base w a x) v e = absurd (cc)
-bound_written (PlaceIn w a u i) v e = absurd (cc)
+bound_written op v e = absurd cc
 
 first_is : (op : Op) (k : ℕ) → (is_bound (TracePlain op) ≡ true → k ≡ 0) → OnFirst op k
-first_is (Compute code v a b) k h = λ e. absurd (cc)
-first_is (Select v p a b) k h = λ e. absurd (cc)
-first_is (Place v a i) k h = λ e. absurd (cc)
-first_is (Load v a p d) k h = λ e. absurd (cc)
-first_is (Store a p x) k h = λ e. absurd (cc)
-first_is (More v) k h = λ e. h refl
-first_is (Input v) k h = λ e. h refl
-first_is (Text n) k h = λ e. h refl
-first_is (Decimal x) k h = λ e. h refl
-first_is (Across v u) k h = λ e. absurd (cc)
-first_is (Base v a x) k h = λ e. absurd (cc)
-first_is (PlaceIn v a u i) k h = λ e. absurd (cc)
+first_is (Compute code w a b) k h = λ e. absurd cc
+first_is (Select w p a b) k h = λ e. absurd cc
+first_is op k h = λ e. h e
 
 -- a load that may be dismissed is at home where the load is
 pub dismissed_at_home : (home : ℕ → Option ℕ) (op : Op) (k : ℕ) → IsAtHome home (TracePlain op) k → IsAtHome home (TracePlain (dismissed op)) k
-dismissed_at_home home (Compute code v a b) k h = h
-dismissed_at_home home (Select v p a b) k h = h
-dismissed_at_home home (Place v a i) k h = h
 dismissed_at_home home (Load v a p d) k h = record { reads = λ w no i. h.reads w no i; writes = λ w i. h.writes w i; bound = λ e. h.bound e }
-dismissed_at_home home (Store a p x) k h = h
-dismissed_at_home home (More v) k h = h
-dismissed_at_home home (Input v) k h = h
-dismissed_at_home home (Text n) k h = h
-dismissed_at_home home (Decimal x) k h = h
-dismissed_at_home home (Across v u) k h = h
-dismissed_at_home home (Base v a x) k h = h
-dismissed_at_home home (PlaceIn v a u i) k h = h
+dismissed_at_home home op k h = h
 
 -- an operation at home stands where its values do
 module _ (graph : Graph) (M : MixedGraph) (banks : M.banks ≡ graph.banks) (copied : CopiesAtHome (length M.banks) (has_home M.homes.clusters)) (op : Op) (k : ℕ) (knows : Known graph op) (home : IsAtHome (has_home M.homes.clusters) (TracePlain op) k) where
@@ -238,17 +166,10 @@ right_same n to h false x = whole_operand_same n to h x
 
 whole_same : (n : ℕ) (to : ℕ → ℕ) → ((v : ℕ) → to v % n ≡ v % n) → (op : Op) → whole_op n (renamed to op) ≡ whole_op n op
 whole_same n to h (Compute code v a b) = ap (λ z. Compute code (whole n v) z (whole_operand n (if is_unary code then b else with_value_in to b))) (whole_operand_same n to h a) ∙ ap (λ z. Compute code (whole n v) (whole_operand n a) z) (right_same n to h (is_unary code) b)
-whole_same n to h (Select v p a b) = ap (λ z. Select (whole n v) (whole n p) z (whole_operand n (with_value_in to b))) (whole_operand_same n to h a) ∙ ap (λ z. Select (whole n v) (whole n p) (whole_operand n a) z) (whole_operand_same n to h b)
-whole_same n to h (Place v a i) = ap (λ z. Place (whole n v) a z) (whole_operand_same n to h i)
-whole_same n to h (Load v a p d) = ap (λ z. Load (whole n v) a z d) (whole_operand_same n to h p)
-whole_same n to h (Store a p x) = ap (λ z. Store a z (whole_operand n (with_value_in to x))) (whole_operand_same n to h p) ∙ ap (λ z. Store a (whole_operand n p) z) (whole_operand_same n to h x)
-whole_same n to h (More v) = refl
-whole_same n to h (Input v) = refl
-whole_same n to h (Text k) = refl
-whole_same n to h (Decimal x) = ap Decimal (whole_operand_same n to h x)
-whole_same n to h (Across v u) = refl
-whole_same n to h (Base v a x) = refl
 whole_same n to h (PlaceIn v a u i) = ap (λ z. PlaceIn (whole n v) a z (whole_operand n (with_value_in to i))) (h u) ∙ ap (λ z. PlaceIn (whole n v) a (whole n u) z) (whole_operand_same n to h i)
+whole_same n to h op =
+    ap (λ z. with_two (whole_op n op) z (whole_operand n (with_value_in to (second_operand op)))) (whole_operand_same n to h (first_operand op))
+    ∙ ap (λ z. with_two (whole_op n op) (whole_operand n (first_operand op)) z) (whole_operand_same n to h (second_operand op))
 
 here_whole : (n : ℕ) (homes : ℕ → Option ℕ) (k v : ℕ) → here n homes k v % n ≡ v % n
 here_whole n homes k v = by (is_away (homes v) k)
@@ -263,18 +184,8 @@ of_renamed to op (TracePlain o) e = let q : op ≡ renamed to o = cc in (o, refl
 of_renamed to op (TraceSplit p y f live) e = absurd cc
 
 renamed_across : (to : ℕ → ℕ) (o : Op) (v u : ℕ) → Across v u ≡ renamed to o → o ≡ Across v u
-renamed_across to (Compute code w a b) v u e = absurd cc
-renamed_across to (Select w p a b) v u e = absurd cc
-renamed_across to (Place w a i) v u e = absurd cc
-renamed_across to (Load w a p d) v u e = absurd cc
-renamed_across to (Store a p x) v u e = absurd cc
-renamed_across to (More w) v u e = absurd cc
-renamed_across to (Input w) v u e = absurd cc
-renamed_across to (Text n) v u e = absurd cc
-renamed_across to (Decimal x) v u e = absurd cc
 renamed_across to (Across w x) v u e = sym e
-renamed_across to (Base w a x) v u e = absurd cc
-renamed_across to (PlaceIn w a u0 i) v u e = absurd cc
+renamed_across to op v u e = absurd cc
 
 -- the operations of a clustered trace
 
@@ -303,17 +214,7 @@ module _ (machine : Numbers) (graph : Graph) (m : MixedGraph) (blocks : List ℕ
   -- a general value that is read is read
   general_read : (op : TraceOp) (v : ℕ) → IsIn v (general_reads op) → IsIn v (reads_of op)
   general_read (TracePlain (Select w p a b)) v h = inr h
-  general_read (TracePlain (Compute code w a b)) v h = h
-  general_read (TracePlain (Place w a i)) v h = h
-  general_read (TracePlain (Load w a p d)) v h = h
-  general_read (TracePlain (Store a p x)) v h = h
-  general_read (TracePlain (More w)) v h = h
-  general_read (TracePlain (Input w)) v h = h
-  general_read (TracePlain (Text n)) v h = h
-  general_read (TracePlain (Decimal x)) v h = h
-  general_read (TracePlain (Across w u)) v h = h
-  general_read (TracePlain (Base w a x)) v h = h
-  general_read (TracePlain (PlaceIn w a u i)) v h = h
+  general_read (TracePlain op) v h = h
   general_read (TraceSplit p y e live) v h = absurd h
 
   plain_reads : (op : TraceOp) (v : ℕ) → IsIn v (general_reads op) → (o : Op) × (op ≡ TracePlain o)
@@ -421,11 +322,11 @@ module _ (machine : Numbers) (graph : Graph) (m : MixedGraph) (blocks : List ℕ
                 }
             by false q le = absurd (omega (arith, lt, le))
 
-        read_away : (v : ℕ) → N ≤ v → InPlace to (general_reads (TracePlain o)) v ⊎ IsIn v (reads o) → IsCopyAway m.banks r.homes.clusters v
+        read_away : (v : ℕ) → N ≤ v → IsNamed to (general_reads (TracePlain o)) v ⊎ IsIn v (reads o) → IsCopyAway m.banks r.homes.clusters v
         read_away v le (inl p) =
-            let lt : p.value < N = named p.value (in_left p.value (reads o) (writes o) (general_read (TracePlain o) p.value p.is_read)) in
+            let lt : p.value < N = named p.value (in_left p.value (reads o) (writes o) (general_read (TracePlain o) p.value p.member)) in
             let knows : Known graph o = known graph sound o (G.code.ops o (of_trace i o at)) in
-            let bank : slice_get graph.banks p.value ≡ Some General = ap (slice_get graph.banks) (sym (mod-eq_of_lt (subst (λ n. p.value < n) (sym graph_many) lt))) ∙ knows.operands p.value p.is_read in
+            let bank : slice_get graph.banks p.value ≡ Some General = ap (slice_get graph.banks) (sym (mod-eq_of_lt (subst (λ n. p.value < n) (sym graph_many) lt))) ∙ knows.operands p.value p.member in
             subst (IsCopyAway m.banks r.homes.clusters) (sym p.is) (to_away p.value lt bank (subst (λ z. N ≤ z) p.is le))
         read_away v le (inr h) = let lt : v < N = named v (in_left v (reads o) (writes o) h) in absurd (omega (arith, lt, le))
 
@@ -435,8 +336,8 @@ module _ (machine : Numbers) (graph : Graph) (m : MixedGraph) (blocks : List ℕ
           | inr b ↦ value_below N v machine.clusters (named v (in_right v (reads o) (writes o) (subst (IsIn v) (ap writes e ∙ renamed_writes to (TracePlain o)) b)))
         ]
           where
-            read_below : (v : ℕ) → InPlace to (general_reads (TracePlain o)) v ⊎ IsIn v (reads o) → v < (machine.clusters + 1) * N
-            read_below v (inl p) = subst (λ z. z < (machine.clusters + 1) * N) (sym p.is) (to_below p.value (named p.value (in_left p.value (reads o) (writes o) (general_read (TracePlain o) p.value p.is_read))))
+            read_below : (v : ℕ) → IsNamed to (general_reads (TracePlain o)) v ⊎ IsIn v (reads o) → v < (machine.clusters + 1) * N
+            read_below v (inl p) = subst (λ z. z < (machine.clusters + 1) * N) (sym p.is) (to_below p.value (named p.value (in_left p.value (reads o) (writes o) (general_read (TracePlain o) p.value p.member))))
             read_below v (inr h) = value_below N v machine.clusters (named v (in_left v (reads o) (writes o) h))
 
         comes_of : (x : Op) → ComesFrom graph x → op ≡ renamed to x → ComesFrom graph op

@@ -10,13 +10,14 @@ use Rattle.vx_flow.specs.declared.graph.Op.TheVariants.{Compute, Select, Place, 
 use Rattle.vx_flow.specs.declared.trace.TraceOp.{TraceOp}
 use Rattle.vx_flow.specs.declared.trace.TraceOp.TheVariants.{Plain, Split}
 use Rattle.vx_flow.specs.Effects.{Content, State, Setting, IsIn, held, is_unary, both, computed, chosen, place_of, place_by, row_of, cell_in, cell_of, is_left, text_at, with_value, with_cell, loaded, stored, next_input, printed, state_or, effect, calm_effect, value_in, reads, writes}
-use Rattle.vx_flow.specs.Operands.{with_value_in}
+use Rattle.vx_flow.specs.Operands.{first_operand, second_operand, with_two, with_value_in}
 use Rattle.vx_flow.specs.Agree.{SameWorld}
 use Rattle.vx_linear.specs.InOrder.{in_order}
 use Rattle.vx_linear.proofs.InOrder.{with_value_kept, with_value_there}
 use Rattle.vx_dep.specs.Delays.{reads_of, writes_of}
-use Rattle.vx_bug.specs.Clusters.{general_reads}
+use Rattle.vx_bug.specs.Clusters.{general_reads, is_across}
 use Rattle.vx_bug.specs.Copies.{renamed, renamed_op}
+use Rattle.vx_region.proofs.Renamed.{values_renamed}
 use Rattle.vx_region.specs.Beside.{SameReads, SameReadsOf, executes, tests}
 
 -- what is written is the same, all else stays
@@ -175,19 +176,12 @@ renamed_effects setting s s' to (PlaceIn v a u i) e w =
     (ap (λ z. place_by z (held s' (with_value_in to i))) p.1 ∙ ap (λ z. place_by (s.values u) z) p.0)
 
 renamed_calm : (setting : Setting) (s s' : State) (to : ℕ → ℕ) (op : Op) → Contents s s' to op → SameWorld s s' → Moved (writes op) s s' (calm_effect setting s op s) (calm_effect setting s' (renamed to op) s')
-renamed_calm setting s s' to (Compute code v a b) e w = renamed_effects setting s s' to (Compute code v a b) e w
-renamed_calm setting s s' to (Select v p a b) e w = renamed_effects setting s s' to (Select v p a b) e w
-renamed_calm setting s s' to (Place v a i) e w = renamed_effects setting s s' to (Place v a i) e w
 renamed_calm setting s s' to (Load v a p dismissible) e w =
     loaded_calm_after s s' v (row_of s (setting.spot a)) (row_of s' (setting.spot a)) (cell_of setting s a p) (cell_of setting s' a (with_value_in to p)) w (row_same s s' (setting.spot a) w) (cell_same setting s s' a p (with_value_in to p) w (one_held s s' to p e))
 renamed_calm setting s s' to (Store a p x) e w = calm_or s s' (effect setting s (Store a p x) s) (effect setting s' (renamed to (Store a p x)) s') w (renamed_effects setting s s' to (Store a p x) e w)
-renamed_calm setting s s' to (More v) e w = renamed_effects setting s s' to (More v) e w
 renamed_calm setting s s' to (Input v) e w = subst (λ ns. Moved (v ∷ []) s s' (state_or (with_value s v None) (next_input s v s.input)) (state_or (with_value s' v None) (next_input s' v ns))) (sym w.input) (input_calm s s' v s.input w)
-renamed_calm setting s s' to (Text n) e w = renamed_effects setting s s' to (Text n) e w
 renamed_calm setting s s' to (Decimal x) e w = calm_or s s' (effect setting s (Decimal x) s) (effect setting s' (renamed to (Decimal x)) s') w (renamed_effects setting s s' to (Decimal x) e w)
-renamed_calm setting s s' to (Across v u) e w = renamed_effects setting s s' to (Across v u) e w
-renamed_calm setting s s' to (Base v a x) e w = renamed_effects setting s s' to (Base v a x) e w
-renamed_calm setting s s' to (PlaceIn v a u i) e w = renamed_effects setting s s' to (PlaceIn v a u i) e w
+renamed_calm setting s s' to op e w = renamed_effects setting s s' to op e w
 
 contents_of : (s s' : State) (op op' : Op) (r : SameReads s s' op op') → Contents s s' r.to op
 contents_of s s' op op' r = ap (λ o. map s'.values (reads o)) (sym r.is) ∙ r.contents
@@ -208,34 +202,18 @@ in_orders setting s s' one other (tests {op} {op'} {p} {y} {edge} {live} r e e')
 abbrev Same : (s s' : State) → (to : ℕ → ℕ) → List ℕ → Type 0
 Same s s' to vs = (v : ℕ) → IsIn v vs → s'.values (to v) ≡ s.values v
 
-one_same : (s s' : State) (to : ℕ → ℕ) (x : Operand) → Same s s' to (value_in x) → map s'.values (value_in (with_value_in to x)) ≡ map s.values (value_in x)
-one_same s s' to (Held v) h = ap (λ c. c ∷ []) (h v (inl refl))
-one_same s s' to (Number n) h = refl
-one_same s s' to Stack h = refl
+all_same : (s s' : State) (to : ℕ → ℕ) (vs : List ℕ) → Same s s' to vs → map s'.values (map to vs) ≡ map s.values vs
+all_same s s' to [] h = refl
+all_same s s' to (v ∷ vs) h = ap (λ c. c ∷ map s'.values (map to vs)) (h v (inl refl)) ∙ ap (λ cs. s.values v ∷ cs) (all_same s s' to vs (λ u i. h u (inr i)))
 
-two_same : (s s' : State) (to : ℕ → ℕ) (a b : Operand) → Same s s' to (value_in a ++ value_in b) → map s'.values (value_in (with_value_in to a) ++ value_in (with_value_in to b)) ≡ map s.values (value_in a ++ value_in b)
-two_same s s' to (Held v) b h = ap (λ c. c ∷ map s'.values (value_in (with_value_in to b))) (h v (inl refl)) ∙ ap (λ cs. s.values v ∷ cs) (one_same s s' to b (λ u i. h u (inr i)))
-two_same s s' to (Number n) b h = one_same s s' to b h
-two_same s s' to Stack b h = one_same s s' to b h
-
-computed_same_reads : (s s' : State) (to : ℕ → ℕ) (a b : Operand) (u : Bool) → Same s s' to (if u then value_in a else value_in a ++ value_in b) →
-    map s'.values (if u then value_in (with_value_in to a) else value_in (with_value_in to a) ++ value_in (if u then b else with_value_in to b)) ≡ map s.values (if u then value_in a else value_in a ++ value_in b)
-computed_same_reads s s' to a b true h = one_same s s' to a h
-computed_same_reads s s' to a b false h = two_same s s' to a b h
+general_same : (s s' : State) (to : ℕ → ℕ) (op : TraceOp) → is_across op ≡ false → Same s s' to (general_reads op) → map s'.values (general_reads (renamed_op to op)) ≡ map s.values (general_reads op)
+general_same s s' to op n h = ap (map s'.values) (values_renamed to op n) ∙ all_same s s' to (general_reads op) h
 
 same_contents : (s s' : State) (to : ℕ → ℕ) (op : Op) → Same s s' to (general_reads (Plain op)) → Same s s' (λ v. v) (reads op) → Contents s s' to op
-same_contents s s' to (Compute code v a b) h g = computed_same_reads s s' to a b (is_unary code) h
-same_contents s s' to (Select v p a b) h g = ap (λ c. c ∷ map s'.values (value_in (with_value_in to a) ++ value_in (with_value_in to b))) (g p (inl refl)) ∙ ap (λ cs. s.values p ∷ cs) (two_same s s' to a b h)
-same_contents s s' to (Place v a i) h g = one_same s s' to i h
-same_contents s s' to (Load v a p d) h g = one_same s s' to p h
-same_contents s s' to (Store a p x) h g = two_same s s' to p x h
-same_contents s s' to (More v) h g = refl
-same_contents s s' to (Input v) h g = refl
-same_contents s s' to (Text n) h g = refl
-same_contents s s' to (Decimal x) h g = one_same s s' to x h
+same_contents s s' to (Select v p a b) h g =
+    ap (λ c. c ∷ map s'.values (value_in (with_value_in to a) ++ value_in (with_value_in to b))) (g p (inl refl)) ∙ ap (λ cs. s.values p ∷ cs) (general_same s s' to (Plain (Select v p a b)) refl h)
 same_contents s s' to (Across v u) h g = ap (λ c. c ∷ []) (g u (inl refl))
-same_contents s s' to (Base v a x) h g = refl
-same_contents s s' to (PlaceIn v a u i) h g = two_same s s' to i (Held u) h
+same_contents s s' to op h g = general_same s s' to (Plain op) refl h
 
 pub renamed_reads : (s s' : State) (to : ℕ → ℕ) (op : TraceOp) → Same s s' to (general_reads op) → Same s s' (λ v. v) (reads_of op) → SameReadsOf s s' op (renamed_op to op)
 renamed_reads s s' to (Plain op) h g = executes (record { to = to; is = refl; contents = same_contents s s' to op h g })
@@ -254,17 +232,8 @@ right_itself false x = itself x
 
 op_itself : (op : Op) → op ≡ renamed (λ v. v) op
 op_itself (Compute code v a b) = sym (ap (λ x. Compute code v x (if is_unary code then b else with_value_in (λ w. w) b)) (itself a) ∙ ap (λ x. Compute code v a x) (right_itself (is_unary code) b))
-op_itself (Select v p a b) = sym (ap (λ x. Select v p x (with_value_in (λ w. w) b)) (itself a) ∙ ap (λ x. Select v p a x) (itself b))
-op_itself (Place v a i) = sym (ap (λ x. Place v a x) (itself i))
-op_itself (Load v a p d) = sym (ap (λ x. Load v a x d) (itself p))
-op_itself (Store a p x) = sym (ap (λ y. Store a y (with_value_in (λ w. w) x)) (itself p) ∙ ap (λ y. Store a p y) (itself x))
-op_itself (More v) = refl
-op_itself (Input v) = refl
-op_itself (Text n) = refl
-op_itself (Decimal x) = sym (ap (λ y. Decimal y) (itself x))
-op_itself (Across v u) = refl
-op_itself (Base v a x) = refl
 op_itself (PlaceIn v a u i) = sym (ap (λ x. PlaceIn v a u x) (itself i))
+op_itself op = sym (ap (λ x. with_two op x (with_value_in (λ v. v) (second_operand op))) (itself (first_operand op)) ∙ ap (λ x. with_two op (first_operand op) x) (itself (second_operand op)))
 
 same_values : (s s' : State) (vs : List ℕ) → Same s s' (λ v. v) vs → map s'.values vs ≡ map s.values vs
 same_values s s' [] h = refl

@@ -2,15 +2,11 @@
 use Rattle.std.proofs.Common.{◌≡◌, ◌⊎◌, inl, inr, ⊎_elim, refl, sym, ◌∙◌, ap, subst, arith, Bool, true, false, not, if◌then◌else◌, nat_eq, ℕ, zero, suc, ◌+◌, Option, List, [], ◌∷◌, ◌++◌, length, map, drop}
 use Rattle.std.specs.List.{list_any}
 use Rattle.vx_flow.specs.declared.graph.Edge.{Edge}
-use Rattle.vx_flow.specs.declared.graph.Operand.{Operand}
-use Rattle.vx_flow.specs.declared.graph.Operand.TheVariants.{Held, Number, Stack}
-use Rattle.vx_flow.specs.declared.graph.Op.TheVariants.{Compute, Select, Place, Load, Store, More, Input, Text, Decimal, Across, Base, PlaceIn}
+use Rattle.vx_flow.specs.declared.graph.Op.TheVariants.{Compute, Select, Across}
 use Rattle.vx_flow.specs.declared.trace.TraceOp.{TraceOp}
 use Rattle.vx_flow.specs.declared.trace.TraceOp.TheVariants.{Plain, Split}
 use Rattle.vx_flow.specs.declared.trace.Trace.{Trace}
-use Rattle.vx_flow.specs.Effects.{IsIn, is_unary, value_in}
-use Rattle.vx_flow.specs.Operands.{with_value_in}
-use Rattle.vx_flow.proofs.Members.{in_left, in_right}
+use Rattle.vx_flow.specs.Effects.{IsIn}
 use Rattle.vx_linear.specs.Followed.{is_join}
 use Rattle.vx_linear.specs.InOrder.{IsEntrance}
 use Rattle.vx_dep.specs.Delays.{reads_of, writes_of}
@@ -20,63 +16,22 @@ use Rattle.vx_bug.specs.Copies.{Standing, copy_of, is_away, serve, copied_for, r
 use Rattle.vx_bug.specs.Laying.{served_at, served_with}
 use Rattle.vx_bug.proofs.Listing.{in_append}
 use Rattle.vx_region.specs.Beside.{Off, Wanted, NothingNewFor, NothingNew}
+use Rattle.vx_region.proofs.Renamed.{IsNamed, reads_named}
 use Rattle.vx_region.proofs.Lists.{entry, in_filter, copied_in, covered, general_in_reads}
 use Rattle.vx_region.proofs.CopySteps.{copying, copied_here, op_here}
 use Rattle.vx_region.proofs.Runs.{op_of, ops_are, moved_entrance}
 
 -- what stands for an operation reads a value, or what is read in its place
-
-pub record InPlace (to : ℕ → ℕ) (vs : List ℕ) (v : ℕ) : Type 0 where
-  pub value : ℕ
-  pub is_read : IsIn value vs
-  pub is : v ≡ to value
-
-more_places : (to : ℕ → ℕ) (xs ys : List ℕ) (v : ℕ) → ((w : ℕ) → IsIn w xs → IsIn w ys) → InPlace to xs v → InPlace to ys v
-more_places to xs ys v f p = record { value = p.value; is_read = f p.value p.is_read; is = p.is }
-
-operand_read : (to : ℕ → ℕ) (x : Operand) (v : ℕ) → IsIn v (value_in (with_value_in to x)) → InPlace to (value_in x) v
-operand_read to (Held w) v h = record { value = w; is_read = inl refl; is = ⊎_elim (λ q. q) (λ n. absurd n) h }
-operand_read to (Number n) v h = absurd h
-operand_read to Stack v h = absurd h
-
-two_read : (to : ℕ → ℕ) (a b : Operand) (v : ℕ) → IsIn v (value_in (with_value_in to a) ++ value_in (with_value_in to b)) → InPlace to (value_in a ++ value_in b) v
-two_read to a b v h = ⊎_elim
-    (λ i. more_places to (value_in a) (value_in a ++ value_in b) v (λ w m. in_left w (value_in a) (value_in b) m) (operand_read to a v i))
-    (λ i. more_places to (value_in b) (value_in a ++ value_in b) v (λ w m. in_right w (value_in a) (value_in b) m) (operand_read to b v i))
-    (in_append v (value_in (with_value_in to a)) (value_in (with_value_in to b)) h)
-
-computed_read : (to : ℕ → ℕ) (a b : Operand) (v : ℕ) (u : Bool) → IsIn v (if u then value_in (with_value_in to a) else value_in (with_value_in to a) ++ value_in (if u then b else with_value_in to b)) → InPlace to (if u then value_in a else value_in a ++ value_in b) v
-computed_read to a b v true h = operand_read to a v h
-computed_read to a b v false h = two_read to a b v h
-
-pub renamed_read : (to : ℕ → ℕ) (op : TraceOp) (v : ℕ) → IsIn v (reads_of (renamed_op to op)) → InPlace to (general_reads op) v ⊎ IsIn v (reads_of op)
-renamed_read to (Plain (Compute code w a b)) v h = inl (computed_read to a b v (is_unary code) h)
-renamed_read to (Plain (Select w p a b)) v h = ⊎_elim (λ q. inr (inl q)) (λ i. inl (two_read to a b v i)) h
-renamed_read to (Plain (Place w a i)) v h = inl (operand_read to i v h)
-renamed_read to (Plain (Load w a p d)) v h = inl (operand_read to p v h)
-renamed_read to (Plain (Store a p x)) v h = inl (two_read to p x v h)
-renamed_read to (Plain (More w)) v h = absurd h
-renamed_read to (Plain (Input w)) v h = absurd h
-renamed_read to (Plain (Text n)) v h = absurd h
-renamed_read to (Plain (Decimal x)) v h = inl (operand_read to x v h)
+pub renamed_read : (to : ℕ → ℕ) (op : TraceOp) (v : ℕ) → IsIn v (reads_of (renamed_op to op)) → IsNamed to (general_reads op) v ⊎ IsIn v (reads_of op)
+renamed_read to (Plain (Select w p a b)) v (inl q) = inr (inl q)
+renamed_read to (Plain (Select w p a b)) v (inr i) = inl (reads_named to (Plain (Select w p a b)) v refl i)
 renamed_read to (Plain (Across w u)) v h = inr h
-renamed_read to (Plain (Base w a x)) v h = absurd h
-renamed_read to (Plain (PlaceIn w a u i)) v h = inl (two_read to i (Held u) v h)
+renamed_read to (Plain op) v h = inl (reads_named to (Plain op) v refl h)
 renamed_read to (Split p y edge live) v h = inr h
 
 pub renamed_writes : (to : ℕ → ℕ) (op : TraceOp) → writes_of (renamed_op to op) ≡ writes_of op
 renamed_writes to (Plain (Compute code w a b)) = refl
-renamed_writes to (Plain (Select w p a b)) = refl
-renamed_writes to (Plain (Place w a i)) = refl
-renamed_writes to (Plain (Load w a p d)) = refl
-renamed_writes to (Plain (Store a p x)) = refl
-renamed_writes to (Plain (More w)) = refl
-renamed_writes to (Plain (Input w)) = refl
-renamed_writes to (Plain (Text n)) = refl
-renamed_writes to (Plain (Decimal x)) = refl
-renamed_writes to (Plain (Across w u)) = refl
-renamed_writes to (Plain (Base w a x)) = refl
-renamed_writes to (Plain (PlaceIn w a u i)) = refl
+renamed_writes to (Plain op) = refl
 renamed_writes to (Split p y edge live) = refl
 
 module _ (t : Trace) (homes : ℕ → Option ℕ) (lives : Edge → List ℕ → ℕ → Type 0) (end : ℕ → Type 0) where
@@ -115,13 +70,13 @@ module _ (t : Trace) (homes : ℕ → Option ℕ) (lives : Edge → List ℕ →
       (λ i. inl i)
       (renamed_read (here t.values homes k) op v h)
     where
-      by : (p : InPlace (here t.values homes k) (general_reads op) v) → (b : Bool) → is_away (homes p.value) k ≡ b → IsIn v (reads_of op) ⊎ ServesAs now v
+      by : (p : IsNamed (here t.values homes k) (general_reads op) v) → (b : Bool) → is_away (homes p.value) k ≡ b → IsIn v (reads_of op) ⊎ ServesAs now v
       by p true e =
           let q : v ≡ copy_of t.values p.value k = p.is ∙ ap (λ b. if b then copy_of t.values p.value k else p.value) e in
-          ⊎_elim (λ i. inr (record { copy = entry p.value k; serves = i; is = q })) (λ i. absurd (n p.value i q)) (covered homes k now (general_reads op) p.value p.is_read e)
+          ⊎_elim (λ i. inr (record { copy = entry p.value k; serves = i; is = q })) (λ i. absurd (n p.value i q)) (covered homes k now (general_reads op) p.value p.member e)
       by p false e =
           let q : v ≡ p.value = p.is ∙ ap (λ b. if b then copy_of t.values p.value k else p.value) e in
-          inl (subst (λ z. IsIn z (reads_of op)) (sym q) (general_in_reads op p.value p.is_read))
+          inl (subst (λ z. IsIn z (reads_of op)) (sym q) (general_in_reads op p.value p.member))
 
   off_here : (op : TraceOp) (k : ℕ) (b : Bool) (v : ℕ) → Off lives (if b then renamed_op (here t.values homes k) op else op) v → Off lives op v
   off_here op k true v h = renamed_off (here t.values homes k) op v h

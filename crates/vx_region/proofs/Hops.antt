@@ -4,7 +4,7 @@ use Rattle.std.proofs.lemmas.List.{append_assoc, map-append}
 use Rattle.vx_flow.specs.declared.graph.Exit.{Exit}
 use Rattle.vx_flow.specs.declared.graph.Exit.TheVariants.{Goto, Split as Branch, Call, Return, Ends}
 use Rattle.vx_flow.specs.declared.graph.Op.{Op}
-use Rattle.vx_flow.specs.declared.graph.Op.TheVariants.{Compute, Select, Place, Load, Store, More, Input, Text, Decimal, Across, Base, PlaceIn}
+use Rattle.vx_flow.specs.declared.graph.Op.TheVariants.{Load, Input, Across}
 use Rattle.vx_flow.specs.declared.trace.TraceOp.{TraceOp}
 use Rattle.vx_flow.specs.declared.trace.TraceOp.TheVariants.{Plain, Split}
 use Rattle.vx_flow.specs.declared.trace.Trace.{Trace}
@@ -45,18 +45,9 @@ or_so : (u t : State) (o : Option State) → o ≡ Some t → state_or u o ≡ t
 or_so u t o e = ap (state_or u) e
 
 calm_is : (setting : Setting) (s t : State) (op : Op) → effect setting s op s ≡ Some t → calm_effect setting s op s ≡ t
-calm_is setting s t (Compute code v a b) e = or_so s t (effect setting s (Compute code v a b) s) e
-calm_is setting s t (Select v p a b) e = or_so s t (effect setting s (Select v p a b) s) e
-calm_is setting s t (Place v a i) e = or_so s t (effect setting s (Place v a i) s) e
 calm_is setting s t (Load v a p d) e = loaded_so s t v (row_of s (setting.spot a)) (cell_of setting s a p) d e
-calm_is setting s t (Store a p x) e = or_so s t (effect setting s (Store a p x) s) e
-calm_is setting s t (More v) e = or_so s t (effect setting s (More v) s) e
 calm_is setting s t (Input v) e = or_so (with_value s v None) t (effect setting s (Input v) s) e
-calm_is setting s t (Text n) e = or_so s t (effect setting s (Text n) s) e
-calm_is setting s t (Decimal x) e = or_so s t (effect setting s (Decimal x) s) e
-calm_is setting s t (Across v u) e = or_so s t (effect setting s (Across v u) s) e
-calm_is setting s t (Base v a x) e = or_so s t (effect setting s (Base v a x) s) e
-calm_is setting s t (PlaceIn v a u i) e = or_so s t (effect setting s (PlaceIn v a u i) s) e
+calm_is setting s t op e = or_so s t (effect setting s op s) e
 
 -- items
 

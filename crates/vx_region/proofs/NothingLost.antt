@@ -2,76 +2,48 @@
 use Rattle.std.proofs.Common.{◌≡◌, ◌⊎◌, inl, inr, ⊎_elim, refl, sym, ◌∙◌, ap, subst, arith, Bool, true, false, not, if◌then◌else◌, nat_eq, ℕ, zero, suc, ◌+◌, Option, List, [], ◌∷◌, ◌++◌, length, map, drop}
 use Rattle.std.specs.List.{list_any}
 use Rattle.vx_flow.specs.declared.graph.Edge.{Edge}
-use Rattle.vx_flow.specs.declared.graph.Operand.{Operand}
-use Rattle.vx_flow.specs.declared.graph.Operand.TheVariants.{Held, Number, Stack}
-use Rattle.vx_flow.specs.declared.graph.Op.TheVariants.{Compute, Select, Place, Load, Store, More, Input, Text, Decimal, Across, Base, PlaceIn}
+use Rattle.vx_flow.specs.declared.graph.Op.TheVariants.{Select, Across, Base}
 use Rattle.vx_flow.specs.declared.trace.TraceOp.{TraceOp}
 use Rattle.vx_flow.specs.declared.trace.TraceOp.TheVariants.{Plain, Split}
 use Rattle.vx_flow.specs.declared.trace.Trace.{Trace}
-use Rattle.vx_flow.specs.Effects.{IsIn, is_unary, value_in}
-use Rattle.vx_flow.specs.Operands.{with_value_in}
-use Rattle.vx_flow.proofs.Members.{in_left, in_right}
+use Rattle.vx_flow.specs.Effects.{IsIn}
 use Rattle.vx_linear.specs.Followed.{is_join}
 use Rattle.vx_linear.specs.InOrder.{IsEntrance}
 use Rattle.vx_dep.specs.Delays.{reads_of, writes_of}
 use Rattle.vx_mixed.proofs.Alike.{in_or}
 use Rattle.vx_bug.specs.declared.served.Served.{Served}
-use Rattle.vx_bug.specs.Clusters.{general_reads}
+use Rattle.vx_bug.specs.Clusters.{general_reads, is_across}
 use Rattle.vx_bug.specs.Copies.{Standing, copy_of, is_away, serve, copied_for, reads_copies, served_behind, here, renamed_op, pieces_from, pieces_of, joined}
 use Rattle.vx_bug.specs.Laying.{served_at, served_with}
 use Rattle.vx_bug.proofs.Listing.{in_append}
 use Rattle.vx_region.specs.Beside.{Off, Wanted, copied_from, CopiesFit}
 use Rattle.vx_region.proofs.Fresh.{renamed_writes}
+use Rattle.vx_region.proofs.Renamed.{values_renamed}
 use Rattle.vx_region.proofs.Lists.{entry, in_filter, covered}
 use Rattle.vx_region.proofs.CopySteps.{copying, copied_here, op_here}
 use Rattle.vx_region.proofs.Runs.{op_of, ops_are, fits_tail}
 
--- an operand that keeps its name is read
+-- a value that keeps its name is read
+kept : (to : ℕ → ℕ) (vs : List ℕ) (v : ℕ) → to v ≡ v → IsIn v vs → IsIn v (map to vs)
+kept to [] v e h = absurd h
+kept to (w ∷ vs) v e (inl q) = inl (sym e ∙ ap to q)
+kept to (w ∷ vs) v e (inr h) = inr (kept to vs v e h)
 
-operand_kept : (to : ℕ → ℕ) (x : Operand) (v : ℕ) → to v ≡ v → IsIn v (value_in x) → IsIn v (value_in (with_value_in to x))
-operand_kept to (Held w) v e h = inl (⊎_elim (λ q. sym e ∙ ap to q) (λ n. absurd n) h)
-operand_kept to (Number n) v e h = absurd h
-operand_kept to Stack v e h = absurd h
-
-two_kept : (to : ℕ → ℕ) (a b : Operand) (v : ℕ) → to v ≡ v → IsIn v (value_in a ++ value_in b) → IsIn v (value_in (with_value_in to a) ++ value_in (with_value_in to b))
-two_kept to a b v e h = ⊎_elim
-    (λ i. in_left v (value_in (with_value_in to a)) (value_in (with_value_in to b)) (operand_kept to a v e i))
-    (λ i. in_right v (value_in (with_value_in to a)) (value_in (with_value_in to b)) (operand_kept to b v e i))
-    (in_append v (value_in a) (value_in b) h)
-
-computed_kept : (to : ℕ → ℕ) (a b : Operand) (v : ℕ) (u : Bool) → to v ≡ v → IsIn v (if u then value_in a else value_in a ++ value_in b) → IsIn v (if u then value_in (with_value_in to a) else value_in (with_value_in to a) ++ value_in (if u then b else with_value_in to b))
-computed_kept to a b v true e h = operand_kept to a v e h
-computed_kept to a b v false e h = two_kept to a b v e h
+general_kept : (to : ℕ → ℕ) (op : TraceOp) (v : ℕ) → is_across op ≡ false → to v ≡ v → IsIn v (general_reads op) → IsIn v (general_reads (renamed_op to op))
+general_kept to op v n e h = subst (IsIn v) (sym (values_renamed to op n)) (kept to (general_reads op) v e h)
 
 kept_read : (to : ℕ → ℕ) (op : TraceOp) (v : ℕ) → to v ≡ v → IsIn v (reads_of op) → IsIn v (reads_of (renamed_op to op))
-kept_read to (Plain (Compute code w a b)) v e h = computed_kept to a b v (is_unary code) e h
-kept_read to (Plain (Select w p a b)) v e h = ⊎_elim (λ q. inl q) (λ i. inr (two_kept to a b v e i)) h
-kept_read to (Plain (Place w a i)) v e h = operand_kept to i v e h
-kept_read to (Plain (Load w a p d)) v e h = operand_kept to p v e h
-kept_read to (Plain (Store a p x)) v e h = two_kept to p x v e h
-kept_read to (Plain (More w)) v e h = absurd h
-kept_read to (Plain (Input w)) v e h = absurd h
-kept_read to (Plain (Text n)) v e h = absurd h
-kept_read to (Plain (Decimal x)) v e h = operand_kept to x v e h
+kept_read to (Plain (Select w p a b)) v e (inl q) = inl q
+kept_read to (Plain (Select w p a b)) v e (inr i) = inr (general_kept to (Plain (Select w p a b)) v refl e i)
 kept_read to (Plain (Across w u)) v e h = h
-kept_read to (Plain (Base w a x)) v e h = absurd h
-kept_read to (Plain (PlaceIn w a u i)) v e h = two_kept to i (Held u) v e h
+kept_read to (Plain op) v e h = general_kept to (Plain op) v refl e h
 kept_read to (Split p y edge live) v e h = h
 
 -- a value that is read is a general one, or a test, which keeps its name
 general_or : (to : ℕ → ℕ) (op : TraceOp) (v : ℕ) → IsIn v (reads_of op) → IsIn v (general_reads op) ⊎ IsIn v (reads_of (renamed_op to op))
-general_or to (Plain (Compute code w a b)) v h = inl h
 general_or to (Plain (Select w p a b)) v h = ⊎_elim (λ q. inr (inl q)) (λ i. inl i) h
-general_or to (Plain (Place w a i)) v h = inl h
-general_or to (Plain (Load w a p d)) v h = inl h
-general_or to (Plain (Store a p x)) v h = inl h
-general_or to (Plain (More w)) v h = inl h
-general_or to (Plain (Input w)) v h = inl h
-general_or to (Plain (Text n)) v h = inl h
-general_or to (Plain (Decimal x)) v h = inl h
-general_or to (Plain (Across w u)) v h = inl h
 general_or to (Plain (Base w a x)) v h = absurd h
-general_or to (Plain (PlaceIn w a u i)) v h = inl h
+general_or to (Plain op) v h = inl h
 general_or to (Split p y edge live) v h = inr h
 
 module _ (t : Trace) (homes : ℕ → Option ℕ) (lives lives' : Edge → List ℕ → ℕ → Type 0) (end end' : ℕ → Type 0) (v : ℕ) (wider : (ops : List TraceOp) → Wanted lives end ops v → Wanted lives' end' ops v) where

@@ -3,7 +3,7 @@ use Rattle.std.proofs.Common.{◌≡◌, ◌⊎◌, inl, inr, ℕ, ◌+◌, ◌<
 use Rattle.vx_flow.specs.declared.graph.Block.{Block}
 use Rattle.vx_flow.specs.declared.graph.Graph.{Graph}
 use Rattle.vx_flow.specs.declared.graph.Op.{Op}
-use Rattle.vx_flow.specs.declared.graph.Op.TheVariants.{Compute, Select, Place, Load, Store, More, Input, Text, Decimal, Across, Base, PlaceIn}
+use Rattle.vx_flow.specs.declared.graph.Op.TheVariants.{Load, Across}
 use Rattle.vx_flow.specs.declared.trace.Clustered.{Clustered}
 use Rattle.vx_flow.specs.declared.trace.Trace.{Trace}
 use Rattle.vx_flow.specs.declared.trace.TraceOp.{TraceOp}
@@ -68,19 +68,9 @@ dismissed_comes graph op (copy at low) = copy at low
 -- a copy that may be dismissed
 
 dismissed_copy : (n u : ℕ) (op : Op) → (u < n) ⊎ IsCopyOf n (TracePlain op) u → (u < n) ⊎ IsCopyOf n (TracePlain (dismissed op)) u
-dismissed_copy n u (Compute code v a b) h = h
-dismissed_copy n u (Select v p a b) h = h
-dismissed_copy n u (Place v a i) h = h
 dismissed_copy n u (Load v a p d) (inl l) = inl l
 dismissed_copy n u (Load v a p d) (inr c) = absurd (let e : TracePlain (Load v a p d) ≡ TracePlain (Across u c.value) = c.is in cc)
-dismissed_copy n u (Store a p x) h = h
-dismissed_copy n u (More v) h = h
-dismissed_copy n u (Input v) h = h
-dismissed_copy n u (Text k) h = h
-dismissed_copy n u (Decimal x) h = h
-dismissed_copy n u (Across v w) h = h
-dismissed_copy n u (Base v a x) h = h
-dismissed_copy n u (PlaceIn v a w i) h = h
+dismissed_copy n u op h = h
 
 -- after a region
 

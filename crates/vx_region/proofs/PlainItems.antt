@@ -1,6 +1,6 @@
 -- The items of a trace on cluster 0, beside its operations.
 use Rattle.std.proofs.Common.{◌≡◌, ℕ, zero, suc, ◌<◌, true, Some, None, List, [], ◌∷◌, length, drop, slice_get, refl, ap, arith}
-use Rattle.vx_flow.specs.declared.graph.Op.TheVariants.{Compute, Select, Place, Load, Store, More, Input, Text, Decimal, Across, Base, PlaceIn}
+use Rattle.vx_flow.specs.declared.graph.Op.TheVariants.{Load, Store, More, Input, Text, Decimal}
 use Rattle.vx_flow.specs.declared.trace.TraceOp.{TraceOp}
 use Rattle.vx_flow.specs.declared.trace.TraceOp.TheVariants.{Plain as TracePlain, Split as TraceSplit}
 use Rattle.vx_flow.specs.Effects.{IsIn}
@@ -66,46 +66,19 @@ split_there (TracePlain op) h = absurd h
 split_there (TraceSplit p y e live) h = refl
 
 pub store_there : (op : TraceOp) → IsStore (plain_item op) → is_store op ≡ true
-store_there (TracePlain (Compute code v a b)) h = absurd h
-store_there (TracePlain (Select v p a b)) h = absurd h
-store_there (TracePlain (Place v a i)) h = absurd h
-store_there (TracePlain (Load v a p d)) h = absurd h
 store_there (TracePlain (Store a p x)) h = refl
-store_there (TracePlain (More v)) h = absurd h
-store_there (TracePlain (Input v)) h = absurd h
-store_there (TracePlain (Text n)) h = absurd h
-store_there (TracePlain (Decimal x)) h = absurd h
-store_there (TracePlain (Across v u)) h = absurd h
-store_there (TracePlain (Base v a x)) h = absurd h
-store_there (TracePlain (PlaceIn v a u i)) h = absurd h
+store_there (TracePlain op) h = absurd h
 store_there (TraceSplit p y e live) h = absurd h
 
 pub load_there : (op : TraceOp) → IsLoad (plain_item op) → is_load op ≡ true
-load_there (TracePlain (Compute code v a b)) h = absurd h
-load_there (TracePlain (Select v p a b)) h = absurd h
-load_there (TracePlain (Place v a i)) h = absurd h
 load_there (TracePlain (Load v a p d)) h = refl
-load_there (TracePlain (Store a p x)) h = absurd h
-load_there (TracePlain (More v)) h = absurd h
-load_there (TracePlain (Input v)) h = absurd h
-load_there (TracePlain (Text n)) h = absurd h
-load_there (TracePlain (Decimal x)) h = absurd h
-load_there (TracePlain (Across v u)) h = absurd h
-load_there (TracePlain (Base v a x)) h = absurd h
-load_there (TracePlain (PlaceIn v a u i)) h = absurd h
+load_there (TracePlain op) h = absurd h
 load_there (TraceSplit p y e live) h = absurd h
 
 pub observable_there : (op : TraceOp) → IsObservable (plain_item op) → is_observable op ≡ true
-observable_there (TracePlain (Compute code v a b)) h = absurd (cc)
-observable_there (TracePlain (Select v p a b)) h = absurd (cc)
-observable_there (TracePlain (Place v a i)) h = absurd (cc)
-observable_there (TracePlain (Load v a p d)) h = absurd (cc)
-observable_there (TracePlain (Store a p x)) h = absurd (cc)
 observable_there (TracePlain (More v)) h = refl
 observable_there (TracePlain (Input v)) h = refl
 observable_there (TracePlain (Text n)) h = refl
 observable_there (TracePlain (Decimal x)) h = refl
-observable_there (TracePlain (Across v u)) h = absurd (cc)
-observable_there (TracePlain (Base v a x)) h = absurd (cc)
-observable_there (TracePlain (PlaceIn v a u i)) h = absurd (cc)
+observable_there (TracePlain op) h = absurd cc
 observable_there (TraceSplit p y e live) h = absurd h

@@ -6,7 +6,7 @@ use Rattle.vx_flow.specs.declared.graph.Block.{Block}
 use Rattle.vx_flow.specs.declared.graph.Edge.{Edge}
 use Rattle.vx_flow.specs.declared.graph.Graph.{Graph}
 use Rattle.vx_flow.specs.declared.graph.Op.{Op}
-use Rattle.vx_flow.specs.declared.graph.Op.TheVariants.{Compute, Select, Place, Load, Store, More, Input, Text, Decimal, Across, Base, PlaceIn}
+use Rattle.vx_flow.specs.declared.graph.Op.TheVariants.{Load, Across}
 use Rattle.vx_flow.specs.declared.trace.TraceOp.{TraceOp}
 use Rattle.vx_flow.specs.declared.trace.TraceOp.TheVariants.{Plain as TracePlain, Split as TraceSplit}
 use Rattle.vx_flow.specs.declared.trace.Clustered.{Clustered}
@@ -113,32 +113,12 @@ arrays_dismissed (Load v a p d) = refl
 arrays_dismissed op = refl
 
 across_dismissed : (op : Op) (v u : ℕ) → Across v u ≡ dismissed op → op ≡ Across v u
-across_dismissed (Compute code w a b) v u e = absurd (cc)
-across_dismissed (Select w p a b) v u e = absurd (cc)
-across_dismissed (Place w a i) v u e = absurd (cc)
-across_dismissed (Load w a p d) v u e = absurd (cc)
-across_dismissed (Store a p x) v u e = absurd (cc)
-across_dismissed (More w) v u e = absurd (cc)
-across_dismissed (Input w) v u e = absurd (cc)
-across_dismissed (Text n) v u e = absurd (cc)
-across_dismissed (Decimal x) v u e = absurd (cc)
 across_dismissed (Across w y) v u e = sym e
-across_dismissed (Base w a x) v u e = absurd (cc)
-across_dismissed (PlaceIn w a u0 i) v u e = absurd (cc)
+across_dismissed op v u e = absurd cc
 
 known_dismissed : (graph : Graph) (op : Op) → Known graph op → Known graph (dismissed op)
-known_dismissed graph (Compute code v a b) h = h
-known_dismissed graph (Select v p a b) h = h
-known_dismissed graph (Place v a i) h = h
 known_dismissed graph (Load v a p d) h = record { results = h.results; operands = h.operands; tests = h.tests; arrays = h.arrays }
-known_dismissed graph (Store a p x) h = h
-known_dismissed graph (More v) h = h
-known_dismissed graph (Input v) h = h
-known_dismissed graph (Text n) h = h
-known_dismissed graph (Decimal x) h = h
-known_dismissed graph (Across v u) h = h
-known_dismissed graph (Base v a x) h = h
-known_dismissed graph (PlaceIn v a u i) h = h
+known_dismissed graph op h = h
 
 pub index_low : {A : Type 0} (xs : List A) (i : ℕ) (x : A) → slice_get xs i ≡ Some x → i < length xs
 index_low [] i x e = absurd (cc)

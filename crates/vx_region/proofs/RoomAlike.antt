@@ -2,7 +2,7 @@
 use Rattle.std.proofs.Common.{◌≡◌, ℕ, ◌+◌, Bool, ◌&&◌, true, List, [], ◌∷◌, ◌++◌, cond, map, count_by, nat_le, refl, sym, ap, ◌∙◌}
 use Rattle.std.specs.Prelude.{◌==◌}
 use Rattle.std.specs.List.{list_all, flat_map, filter}
-use Rattle.vx_flow.specs.declared.graph.Op.TheVariants.{Compute, Select, Place, Load, Store, More, Input, Text, Decimal, Across, Base, PlaceIn}
+use Rattle.vx_flow.specs.declared.graph.Op.TheVariants.{Load}
 use Rattle.vx_flow.specs.declared.trace.Homes.{Homes}
 use Rattle.vx_flow.specs.Effects.{dismissed}
 use Rattle.vx_isa.specs.declared.operation.UnitKind.{UnitKind}
@@ -39,18 +39,8 @@ itself : (i : Item) → SameNeeds i i
 itself i = record { unit = refl; written = refl; split = refl; observable = refl; reads = refl; source = λ homes k. refl }
 
 same_needs : (i : Item) → SameNeeds i (all_dismissed i)
-same_needs (Plain (Compute code v a b)) = itself (Plain (Compute code v a b))
-same_needs (Plain (Select v p a b)) = itself (Plain (Select v p a b))
-same_needs (Plain (Place v a i)) = itself (Plain (Place v a i))
 same_needs (Plain (Load v a p d)) = record { unit = refl; written = refl; split = refl; observable = refl; reads = refl; source = λ homes k. refl }
-same_needs (Plain (Store a p x)) = itself (Plain (Store a p x))
-same_needs (Plain (More v)) = itself (Plain (More v))
-same_needs (Plain (Input v)) = itself (Plain (Input v))
-same_needs (Plain (Text n)) = itself (Plain (Text n))
-same_needs (Plain (Decimal x)) = itself (Plain (Decimal x))
-same_needs (Plain (Across v u)) = itself (Plain (Across v u))
-same_needs (Plain (Base v a x)) = itself (Plain (Base v a x))
-same_needs (Plain (PlaceIn v a u i)) = itself (Plain (PlaceIn v a u i))
+same_needs (Plain op) = itself (Plain op)
 same_needs (Split p) = itself (Split p)
 
 -- lists

@@ -2,7 +2,7 @@
 use Rattle.std.proofs.Common.{◌≡◌, inl, inr, ℕ, true, ◌&&◌, Option, List, [], ◌∷◌, ◌++◌, map, count_by, nat_le, refl, sym, ap, ◌∙◌}
 use Rattle.std.specs.List.{list_all, flat_map, filter}
 use Rattle.vx_flow.specs.declared.graph.Op.{Op}
-use Rattle.vx_flow.specs.declared.graph.Op.TheVariants.{Compute, Select, Place, Load, Store, More, Input, Text, Decimal, Across, Base, PlaceIn}
+use Rattle.vx_flow.specs.declared.graph.Op.TheVariants.{Across}
 use Rattle.vx_flow.specs.declared.trace.Homes.{Homes}
 use Rattle.vx_flow.specs.Effects.{IsIn}
 use Rattle.vx_isa.specs.declared.operation.UnitKind.TheVariants.{Alu, Multiply, Memory, Copies}
@@ -31,18 +31,8 @@ module _ (homes homes' : List (Option ℕ)) where
   Same word = (v u cluster : ℕ) → IsIn (Plain (Across v u) cluster) word → has_home homes' u ≡ has_home homes u
 
   source_same : (op : Op) (cluster : ℕ) (k : ℕ) → ((v u : ℕ) → op ≡ Across v u → has_home homes' u ≡ has_home homes u) → source_by (homes_in homes') k (PlainItem op) ≡ source_by (homes_in homes) k (PlainItem op)
-  source_same (Compute code v a b) cluster k h = refl
-  source_same (Select v p a b) cluster k h = refl
-  source_same (Place v a i) cluster k h = refl
-  source_same (Load v a p d) cluster k h = refl
-  source_same (Store a p x) cluster k h = refl
-  source_same (More v) cluster k h = refl
-  source_same (Input v) cluster k h = refl
-  source_same (Text n) cluster k h = refl
-  source_same (Decimal x) cluster k h = refl
   source_same (Across v u) cluster k h = h v u refl
-  source_same (Base v a x) cluster k h = refl
-  source_same (PlaceIn v a u i) cluster k h = refl
+  source_same op cluster k h = refl
 
   clusters_same : (item : Item) (word : List Item) → Same (item ∷ word) → read_clusters (homes_in homes') (item_in item) ≡ read_clusters (homes_in homes) (item_in item)
   clusters_same (Plain op cluster) word h =

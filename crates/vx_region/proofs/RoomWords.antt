@@ -4,7 +4,7 @@ use Rattle.std.specs.Prelude.{◌==◌, nat_eq, nat_le, if◌then◌else◌}
 use Rattle.std.specs.List.{filter, flat_map, list_any}
 use Rattle.vx_flow.specs.declared.graph.Edge.{Edge}
 use Rattle.vx_flow.specs.declared.graph.Op.{Op}
-use Rattle.vx_flow.specs.declared.graph.Op.TheVariants.{Compute, Select, Place, Load, Store, More, Input, Text, Decimal, Across, Base, PlaceIn}
+use Rattle.vx_flow.specs.declared.graph.Op.TheVariants.{Load}
 use Rattle.vx_flow.specs.declared.trace.TraceOp.{TraceOp}
 use Rattle.vx_flow.specs.declared.trace.TraceOp.TheVariants.{Plain as TracePlain, Split as TraceSplit}
 use Rattle.vx_flow.specs.declared.trace.Homes.{Homes}
@@ -26,18 +26,8 @@ use Rattle.vx_region.proofs.RoomAlike.{erased, room_alike}
 
 dismissed_again : (b : Bool) (op : Op) → dismissed (if b then dismissed op else op) ≡ dismissed op
 dismissed_again false op = refl
-dismissed_again true (Compute code v a b) = refl
-dismissed_again true (Select v p a b) = refl
-dismissed_again true (Place v a i) = refl
 dismissed_again true (Load v a p d) = refl
-dismissed_again true (Store a p x) = refl
-dismissed_again true (More v) = refl
-dismissed_again true (Input v) = refl
-dismissed_again true (Text n) = refl
-dismissed_again true (Decimal x) = refl
-dismissed_again true (Across v u) = refl
-dismissed_again true (Base v a x) = refl
-dismissed_again true (PlaceIn v a u i) = refl
+dismissed_again true op = refl
 
 map_append : {A B : Type 0} (f : A → B) (xs ys : List A) → map f (xs ++ ys) ≡ map f xs ++ map f ys
 map_append f [] ys = refl

@@ -9,7 +9,7 @@ use Rattle.vx_base.specs.declared.arithmetic.Code.TheVariants.{ToBranch}
 use Rattle.vx_flow.specs.declared.graph.Bank.TheVariants.{General, Branch}
 use Rattle.vx_flow.specs.declared.graph.Graph.{Graph}
 use Rattle.vx_flow.specs.declared.graph.Op.{Op}
-use Rattle.vx_flow.specs.declared.graph.Op.TheVariants.{Compute, Select, Place, Load, Store, More, Input, Text, Decimal, Across, Base, PlaceIn}
+use Rattle.vx_flow.specs.declared.graph.Op.TheVariants.{Compute, Select, Place, Load, Store, Decimal, Across, Base, PlaceIn}
 use Rattle.vx_flow.specs.declared.graph.Operand.{Operand}
 use Rattle.vx_flow.specs.declared.graph.Operand.TheVariants.{Held, Number, Stack}
 use Rattle.vx_flow.specs.declared.trace.TraceOp.TheVariants.{Plain}
@@ -97,13 +97,10 @@ held_operand n v (Select w p a b) not h = two_of n v a b (operands_of (whole_op 
 held_operand n v (Place w a i) not h = one_of n v i (operands_of (whole_op n (Place w a i))) h (inl refl)
 held_operand n v (Load w a p d) not h = one_of n v p (operands_of (whole_op n (Load w a p d))) h (inl refl)
 held_operand n v (Store a p x) not h = two_of n v p x (operands_of (whole_op n (Store a p x))) h (inl refl) (inr (inl refl))
-held_operand n v (More w) not h = absurd h
-held_operand n v (Input w) not h = absurd h
-held_operand n v (Text k) not h = absurd h
 held_operand n v (Decimal x) not h = one_of n v x (operands_of (whole_op n (Decimal x))) h (inl refl)
 held_operand n v (Across w u) not h = absurd (not w u refl)
-held_operand n v (Base w a x) not h = absurd h
 held_operand n v (PlaceIn w a u i) not h = two_of n v i (Held u) (operands_of (whole_op n (PlaceIn w a u i))) h (inl refl) (inr (inl refl))
+held_operand n v op not h = absurd h
 
 -- what is known: the bank of a copy is that of its value
 
@@ -117,18 +114,8 @@ not_across : (graph : Graph) → Sound graph → (op origin : Op) → dismissed 
 not_across graph sound op origin same not v u e = by origin not (ap (λ z. dismissed (whole_op (length graph.banks) z)) (sym e) ∙ same)
   where
     by : (o : Op) → ((v u : ℕ) → o ≡ Across v u → ⊥) → Across (whole (length graph.banks) v) (whole (length graph.banks) u) ≡ dismissed o → ⊥
-    by (Compute code w a b) n q = cc
-    by (Select w p a b) n q = cc
-    by (Place w a i) n q = cc
-    by (Load w a p d) n q = cc
-    by (Store a p x) n q = cc
-    by (More w) n q = cc
-    by (Input w) n q = cc
-    by (Text k) n q = cc
-    by (Decimal x) n q = cc
     by (Across w x) n q = n w x refl
-    by (Base w a x) n q = cc
-    by (PlaceIn w a u i) n q = cc
+    by op n q = cc
 
 pub copy_is_whole : (n u k : ℕ) → u < n → copy_of n u k % n ≡ u
 copy_is_whole n u k lt = let e : suc k ≡ k + 1 = omega arith in ap (λ z. (z * n + u) % n) e ∙ mod-mul-add (k + 1) n u lt
@@ -167,14 +154,4 @@ known graph sound op (copy {u = u} {k = k} at low) =
 pub read_kind : (v : ℕ) (op : Op) → IsIn v (reads op) → IsIn v (general_reads (Plain op)) ⊎ IsIn v (tests_of op)
 read_kind v (Select w p a b) (inl e) = inr (inl e)
 read_kind v (Select w p a b) (inr h) = inl h
-read_kind v (Compute code w a b) h = inl h
-read_kind v (Place w a i) h = inl h
-read_kind v (Load w a p d) h = inl h
-read_kind v (Store a p x) h = inl h
-read_kind v (More w) h = inl h
-read_kind v (Input w) h = inl h
-read_kind v (Text n) h = inl h
-read_kind v (Decimal x) h = inl h
-read_kind v (Across w u) h = inl h
-read_kind v (Base w a x) h = inl h
-read_kind v (PlaceIn w a u i) h = inl h
+read_kind v op h = inl h

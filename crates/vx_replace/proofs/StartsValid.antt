@@ -6,8 +6,6 @@ use Rattle.std.specs.Option.{option_map}
 use Rattle.std.proofs.Math.Nat.{mod-eq_of_lt}
 use Rattle.std.proofs.lemmas.Bool.{and_parts, ltb-true}
 use Rattle.std.proofs.lemmas.List.{length-replicate, length-map}
-use Rattle.vx_base.specs.declared.arithmetic.Code.{Code}
-use Rattle.vx_base.specs.declared.arithmetic.Code.TheVariants.{Add, Sub, And, Or, Xor, Shl, Shr, Shru, Sh2add, Max, Min, Mov, ToGeneral, ToBranch, Mpylu, Mpyhs, Div, Rem}
 use Rattle.vx_flow.specs.declared.graph.Bank.{Bank}
 use Rattle.vx_flow.specs.declared.graph.Bank.TheVariants.{General, Branch}
 use Rattle.vx_flow.specs.declared.graph.Block.{Block}
@@ -16,11 +14,13 @@ use Rattle.vx_flow.specs.declared.graph.Exit.{Exit}
 use Rattle.vx_flow.specs.declared.graph.Exit.TheVariants.{Goto, Split as Branches, Call, Return, Ends}
 use Rattle.vx_flow.specs.declared.graph.Graph.{Graph}
 use Rattle.vx_flow.specs.declared.graph.Op.{Op}
-use Rattle.vx_flow.specs.declared.graph.Op.TheVariants.{Compute, Select, Place, Load, Store, More, Input, Text, Decimal, Across, Base, PlaceIn}
+use Rattle.vx_flow.specs.declared.graph.Op.TheVariants.{Across}
 use Rattle.vx_flow.specs.declared.graph.Operand.{Operand}
 use Rattle.vx_flow.specs.Effects.{IsIn, reads, writes}
 use Rattle.vx_flow.specs.Live.{reads_of_exit}
-use Rattle.vx_flow.specs.Sound.{is_bank, is_general, is_branch, is_operand, is_right, is_written, is_sound_operation, is_sound_exit, is_sound_in, is_sound_block, is_sound, is_general_or_none, targets_of, results_of_exit}
+use Rattle.vx_flow.specs.Sound.{is_bank, is_branch, is_operand, is_sound_operation, is_sound_exit, is_sound_in, is_sound_block, is_sound, is_general_or_none, targets_of, results_of_exit, bank_written}
+use Rattle.vx_flow.proofs.IndexSteps.{get_below}
+use Rattle.vx_flow.proofs.SoundNames.{results_are}
 use Rattle.vx_mixed.specs.declared.region.Node.TheVariants.{Unused, Inner}
 use Rattle.vx_mixed.specs.declared.region.Origin.{Origin}
 use Rattle.vx_mixed.specs.declared.mixed.MixedGraph.{MixedGraph}
@@ -33,48 +33,6 @@ module _ (banks : List Bank) where
   one_below : (v : ℕ) (bank : Bank) → is_bank bank (slice_get banks v) ≡ true → Below banks (v ∷ [])
   one_below v bank h u (inl e) = subst (λ z. z < length banks) (sym e) (bank_below banks v bank h)
   one_below v bank h u (inr q) = absurd q
-
-  written_below : (code : Code) (v : ℕ) → is_written banks code v ≡ true → Below banks (v ∷ [])
-  written_below (ToBranch k) v h = one_below v Branch h
-  written_below Mov v h = one_below v General h
-  written_below Add v h = one_below v General h
-  written_below Sub v h = one_below v General h
-  written_below And v h = one_below v General h
-  written_below Or v h = one_below v General h
-  written_below Xor v h = one_below v General h
-  written_below Shl v h = one_below v General h
-  written_below Shr v h = one_below v General h
-  written_below Shru v h = one_below v General h
-  written_below Sh2add v h = one_below v General h
-  written_below Max v h = one_below v General h
-  written_below Min v h = one_below v General h
-  written_below (ToGeneral k) v h = one_below v General h
-  written_below Mpylu v h = one_below v General h
-  written_below Mpyhs v h = one_below v General h
-  written_below Div v h = one_below v General h
-  written_below Rem v h = one_below v General h
-
-  writes_below : (arrays : ℕ) (op : Op) → is_sound_operation banks arrays op ≡ true → Below banks (writes op)
-  writes_below n (Compute code v a b) h =
-      let x = and_parts (is_written banks code v && is_operand banks a) (is_right banks code b) h in
-      written_below code v (and_parts (is_written banks code v) (is_operand banks a) x.0).0
-  writes_below n (Select v p a b) h =
-      let x = and_parts (is_general banks v && is_branch banks p && is_operand banks a) (is_operand banks b) h in
-      let y = and_parts (is_general banks v && is_branch banks p) (is_operand banks a) x.0 in
-      one_below v General (and_parts (is_general banks v) (is_branch banks p) y.0).0
-  writes_below n (Place v a i) h = one_below v General (and_parts (is_general banks v) (nat_lt a n) (and_parts (is_general banks v && nat_lt a n) (is_operand banks i) h).0).0
-  writes_below n (Load v a p d) h = one_below v General (and_parts (is_general banks v) (nat_lt a n) (and_parts (is_general banks v && nat_lt a n) (is_operand banks p) h).0).0
-  writes_below n (Store a p x) h = λ u q. absurd q
-  writes_below n (More v) h = one_below v General h
-  writes_below n (Input v) h = one_below v General h
-  writes_below n (Text k) h = λ u q. absurd q
-  writes_below n (Decimal x) h = λ u q. absurd q
-  writes_below n (Across v u) h = absurd (cc)
-  writes_below n (Base v a x) h = one_below v General (and_parts (is_general banks v) (nat_lt a n) h).0
-  writes_below n (PlaceIn v a u i) h =
-      let x = and_parts (is_general banks v && nat_lt a n && is_general banks u) (is_operand banks i) h in
-      let y = and_parts (is_general banks v && nat_lt a n) (is_general banks u) x.0 in
-      one_below v General (and_parts (is_general banks v) (nat_lt a n) y.0).0
 
   result_below : (result : Option ℕ) (g next : ℕ) (arguments : List Operand) → is_general_or_none banks result ≡ true → Below banks (results_of_exit (Call g arguments result next))
   result_below None g next arguments h = λ v q. absurd q
@@ -118,6 +76,9 @@ no_inner : (o : Option Block) → option_map Unused o ≡ Some Inner → ⊥
 no_inner None e = cc
 no_inner (Some b) e = cc
 
+writes_below : (graph : Graph) (op : Op) → is_sound_operation graph.banks (length graph.arrays) op ≡ true → Below graph.banks (writes op)
+writes_below graph op h v i = get_below graph.banks v (bank_written op) (results_are graph op v h i)
+
 module _ (graph : Graph) (m : MixedGraph) (sound : is_sound graph ≡ true) (can : CanBegin graph) (from : FromGraph graph m) where
   banks : m.banks ≡ graph.banks
   banks = from.blocks.banks
@@ -156,7 +117,7 @@ module _ (graph : Graph) (m : MixedGraph) (sound : is_sound graph ≡ true) (can
   names_below : (b v : ℕ) (k : Block) → slice_get graph.blocks b ≡ Some k → Names k v → v < length graph.banks
   names_below b v k at (inl h) =
       let s = op_sound h.0 k.ops (block_sound b k at).0 h.1 in
-      both_below graph.banks (reads h.0) (writes h.0) (op_below graph.banks (length graph.arrays) h.0 s) (writes_below graph.banks (length graph.arrays) h.0 s) v h.2
+      both_below graph.banks (reads h.0) (writes h.0) (op_below graph.banks (length graph.arrays) h.0 s) (writes_below graph h.0 s) v h.2
   names_below b v k at (inr h) =
       let s = (block_sound b k at).1 in
       both_below graph.banks (reads_of_exit k.exit) (results_of_exit k.exit) (exit_below graph.banks (length graph.blocks) k.exit s) (results_below graph.banks (length graph.blocks) k.exit s) v h

@@ -2,9 +2,9 @@
 use Rattle.std.proofs.Common.{◌≡◌, ℕ, ◌≤◌, All, Bool, ◌&&◌, ◌==◌, ◌⊎◌, ⊎_elim, inl, inr, true, false, if◌then◌else◌, cond, List, [], ◌∷◌, ◌++◌, ap, sym, ◌∙◌, refl, count_by, arith}
 use Rattle.std.specs.List.{flat_map}
 use Rattle.vx_base.specs.declared.arithmetic.Code.{Code}
-use Rattle.vx_base.specs.declared.arithmetic.Code.TheVariants.{Add, Sub, And, Or, Xor, Shl, Shr, Shru, Sh2add, Max, Min, Mov, ToGeneral, ToBranch, Mpylu, Mpyhs, Div, Rem}
+use Rattle.vx_base.specs.declared.arithmetic.Code.TheVariants.{Add}
 use Rattle.vx_flow.specs.declared.graph.Op.{Op}
-use Rattle.vx_flow.specs.declared.graph.Op.TheVariants.{Compute, Select, Place, Load, Store, More, Input, Text, Decimal, Across, Base, PlaceIn}
+use Rattle.vx_flow.specs.declared.graph.Op.TheVariants.{Compute}
 use Rattle.vx_flow.specs.declared.trace.Homes.{Homes}
 use Rattle.vx_isa.specs.declared.operation.UnitKind.{UnitKind}
 use Rattle.vx_isa.specs.declared.operation.UnitKind.TheVariants.{Alu, Multiply, Memory, Copies, Control}
@@ -25,37 +25,11 @@ use Rattle.vx_room.proofs.RoomLaw.{room_in_words}
 
 pub no_control : (code : Code) → same_unit (unit_of_code code) Control ≡ false
 no_control Add = refl
-no_control Sub = refl
-no_control And = refl
-no_control Or = refl
-no_control Xor = refl
-no_control Shl = refl
-no_control Shr = refl
-no_control Shru = refl
-no_control Sh2add = refl
-no_control Max = refl
-no_control Min = refl
-no_control Mov = refl
-no_control (ToGeneral compare) = refl
-no_control (ToBranch compare) = refl
-no_control Mpylu = refl
-no_control Mpyhs = refl
-no_control Div = refl
-no_control Rem = refl
+no_control code = refl
 
 pub no_control_op : (op : Op) → same_unit (unit_of_op op) Control ≡ false
 no_control_op (Compute code v a b) = no_control code
-no_control_op (Select v p a b) = refl
-no_control_op (Place v a i) = refl
-no_control_op (Load v a p dismissible) = refl
-no_control_op (Store a p x) = refl
-no_control_op (More v) = refl
-no_control_op (Input v) = refl
-no_control_op (Text n) = refl
-no_control_op (Decimal x) = refl
-no_control_op (Across v u) = refl
-no_control_op (Base v a x) = refl
-no_control_op (PlaceIn v a u i) = refl
+no_control_op op = refl
 
 pub split_is_control : (item : Item) → same_unit (unit_of_item item) Control ≡ is_split item
 split_is_control (Plain op) = no_control_op op

@@ -2,9 +2,9 @@
 use Rattle.std.proofs.Common.{◌≡◌, ℕ, ◌≤◌, Bool, ◌&&◌, ◌==◌, true, false, nat_le, if◌then◌else◌, [], ◌∷◌, length, count_by, arith}
 use Rattle.std.proofs.lemmas.Bool.{le-leb}
 use Rattle.std.proofs.lemmas.List.Sums.{count_by-le-length}
-use Rattle.vx_base.specs.declared.arithmetic.Code.TheVariants.{Add, Sub, And, Or, Xor, Shl, Shr, Shru, Sh2add, Max, Min, Mov, ToGeneral, ToBranch, Mpylu, Mpyhs, Div, Rem}
+use Rattle.vx_base.specs.declared.arithmetic.Code.TheVariants.{Mov}
 use Rattle.vx_flow.specs.declared.graph.Op.{Op}
-use Rattle.vx_flow.specs.declared.graph.Op.TheVariants.{Compute, Select, Place, Load, Store, More, Input, Text, Decimal, Across, Base, PlaceIn}
+use Rattle.vx_flow.specs.declared.graph.Op.TheVariants.{Compute}
 use Rattle.vx_flow.specs.declared.trace.Homes.{Homes}
 use Rattle.vx_isa.specs.declared.operation.UnitKind.TheVariants.{Alu, Multiply, Memory, Copies}
 use Rattle.vx_isa.specs.Numbers.{Numbers}
@@ -19,53 +19,17 @@ use Rattle.vx_room.proofs.RoomSteps.{reads_at_one}
 
 -- an item reads at most two general registers
 
-none : 0 ≤ 2
-none = omega arith
-
-one : 1 ≤ 2
-one = omega arith
-
-two : 2 ≤ 2
-two = omega arith
-
 few_reads_of_op : (op : Op) → length (general_reads_of_op op) ≤ 2
-few_reads_of_op (Compute Add v a b) = two
-few_reads_of_op (Compute Sub v a b) = two
-few_reads_of_op (Compute And v a b) = two
-few_reads_of_op (Compute Or v a b) = two
-few_reads_of_op (Compute Xor v a b) = two
-few_reads_of_op (Compute Shl v a b) = two
-few_reads_of_op (Compute Shr v a b) = two
-few_reads_of_op (Compute Shru v a b) = two
-few_reads_of_op (Compute Sh2add v a b) = two
-few_reads_of_op (Compute Max v a b) = two
-few_reads_of_op (Compute Min v a b) = two
-few_reads_of_op (Compute Mov v a b) = one
-few_reads_of_op (Compute (ToGeneral compare) v a b) = two
-few_reads_of_op (Compute (ToBranch compare) v a b) = two
-few_reads_of_op (Compute Mpylu v a b) = two
-few_reads_of_op (Compute Mpyhs v a b) = two
-few_reads_of_op (Compute Div v a b) = two
-few_reads_of_op (Compute Rem v a b) = two
-few_reads_of_op (Select v p a b) = two
-few_reads_of_op (Place v a i) = two
-few_reads_of_op (Load v a p dismissible) = one
-few_reads_of_op (Store a p x) = two
-few_reads_of_op (More v) = none
-few_reads_of_op (Input v) = none
-few_reads_of_op (Text n) = none
-few_reads_of_op (Decimal x) = one
-few_reads_of_op (Across v u) = one
-few_reads_of_op (Base v a x) = one
-few_reads_of_op (PlaceIn v a u i) = two
+few_reads_of_op (Compute Mov v a b) = omega arith
+few_reads_of_op op = omega arith
 
 few_reads : (item : Item) → length (general_reads item) ≤ 2
 few_reads (Plain op) = few_reads_of_op op
-few_reads (Split p) = none
+few_reads (Split p) = omega arith
 
 few_if : (b : Bool) (n : ℕ) → n ≤ 2 → (if b then n else 0) ≤ 2
 few_if true n h = h
-few_if false n h = none
+few_if false n h = omega arith
 
 few_at : (homes : Homes) (k : ℕ) (x : ClusteredItem) → reads_at homes k (x ∷ []) ≤ 2
 few_at homes k x =

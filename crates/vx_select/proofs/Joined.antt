@@ -7,7 +7,7 @@ use Rattle.std.proofs.lemmas.Bool.{and_parts, false≢true}
 use Rattle.std.specs.Cmp.Derive.{both_true}
 use Rattle.vx_flow.specs.declared.graph.Bank.TheVariants.{General, Branch}
 use Rattle.vx_flow.specs.declared.graph.Op.{Op}
-use Rattle.vx_flow.specs.declared.graph.Op.TheVariants.{Compute, Select, Place, Load, Store, More, Input, Text, Decimal, Across, Base, PlaceIn}
+use Rattle.vx_flow.specs.declared.graph.Op.TheVariants.{Compute, Select}
 use Rattle.vx_flow.specs.declared.graph.Exit.TheVariants.{Goto, Split}
 use Rattle.vx_flow.specs.declared.graph.Graph.{Graph}
 use Rattle.vx_flow.specs.Effects.{Content, State, IsIn, is_one, chosen, reads, writes}
@@ -32,16 +32,7 @@ get_in (y ∷ ys) (suc i) x e = inr (get_in ys i x e)
 pub simple_is : (g : Graph) (op : Op) → is_simple g.banks op ≡ true → Simple op × Has g (target op) General
 simple_is g (Compute code v a b) h = (computes, general_is g v h)
 simple_is g (Select v p a b) h = (chooses, general_is g v h)
-simple_is g (Place v a i) h = absurd (false≢true h)
-simple_is g (Load v a p dismissible) h = absurd (false≢true h)
-simple_is g (Store a p x) h = absurd (false≢true h)
-simple_is g (More v) h = absurd (false≢true h)
-simple_is g (Input v) h = absurd (false≢true h)
-simple_is g (Text n) h = absurd (false≢true h)
-simple_is g (Decimal x) h = absurd (false≢true h)
-simple_is g (Across v w) h = absurd (false≢true h)
-simple_is g (Base v a x) h = absurd (false≢true h)
-simple_is g (PlaceIn v a u i) h = absurd (false≢true h)
+simple_is g op h = absurd (false≢true h)
 
 pub in_mapped : (f : Op → List ℕ) (ops : List Op) (op : Op) (v : ℕ) → IsIn op ops → IsIn v (f op) → IsIn v (flat_map f ops)
 in_mapped f [] op v m n = absurd m

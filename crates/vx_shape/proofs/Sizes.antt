@@ -5,7 +5,7 @@ use Rattle.std.proofs.lemmas.List.{length-map, length-append}
 use Rattle.std.specs.Option.{option_map}
 use Rattle.vx_base.specs.Outcome.{Step, On, Over}
 use Rattle.vx_flow.specs.declared.graph.Op.{Op}
-use Rattle.vx_flow.specs.declared.graph.Op.TheVariants.{Compute, Select, Place, Load, Store, More, Input, Text, Decimal, Across, Base, PlaceIn}
+use Rattle.vx_flow.specs.declared.graph.Op.TheVariants.{Load, Store, Input, Decimal}
 use Rattle.vx_flow.specs.declared.graph.Exit.{Exit}
 use Rattle.vx_flow.specs.declared.graph.Exit.TheVariants.{Goto, Split, Call, Return, Ends}
 use Rattle.vx_flow.specs.declared.graph.Block.{Block}
@@ -63,18 +63,11 @@ module _ (P : ℕ → Type 0) where
   printed_sized s (Some m) h = h
 
   effect_sized : (setting : Setting) (s : State) (op : Op) → P (length s.arrays) → StateSized (effect setting s op s)
-  effect_sized setting s (Compute code v a b) h = h
-  effect_sized setting s (Select v p a b) h = h
-  effect_sized setting s (Place v a i) h = h
   effect_sized setting s (Load v a p d) h = loaded_sized s v (row_of s (setting.spot a)) (cell_of setting s a p) d h
   effect_sized setting s (Store a p x) h = stored_sized s (setting.spot a) (cell_of setting s a p) (held s x) h
-  effect_sized setting s (More v) h = h
   effect_sized setting s (Input v) h = input_sized s v s.input h
-  effect_sized setting s (Text m) h = h
   effect_sized setting s (Decimal x) h = printed_sized s (held s x) h
-  effect_sized setting s (Across v u) h = h
-  effect_sized setting s (Base v a x) h = h
-  effect_sized setting s (PlaceIn v a u i) h = h
+  effect_sized setting s op h = h
 
   test_sized : (x : Content) (b c d : ℕ) (s : State) → P (length s.arrays) → HopSized (by_test x (Arrives b c s) (Arrives b d s))
   test_sized None b c d s h = tt

@@ -5,13 +5,13 @@ use Rattle.std.specs.List.{flat_map, filter}
 use Rattle.std.proofs.lemmas.Bool.{eqb-true, and_parts, leb-true, lt-ltb}
 use Rattle.std.proofs.lemmas.Bool.Decides.{nat_tests}
 use Rattle.vx_base.specs.declared.arithmetic.Code.{Code}
-use Rattle.vx_base.specs.declared.arithmetic.Code.TheVariants.{Add, Sub, And, Or, Xor, Shl, Shr, Shru, Sh2add, Max, Min, Mov, ToGeneral, ToBranch, Mpylu, Mpyhs, Div, Rem}
+use Rattle.vx_base.specs.declared.arithmetic.Code.TheVariants.{Add}
 use Rattle.vx_flow.specs.declared.graph.Bank.{Bank}
 use Rattle.vx_flow.specs.declared.graph.Bank.TheVariants.{General as GeneralBank, Branch as BranchBank}
 use Rattle.vx_flow.specs.declared.graph.Operand.{Operand}
 use Rattle.vx_flow.specs.declared.graph.Operand.TheVariants.{Held, Number, Stack}
 use Rattle.vx_flow.specs.declared.graph.Op.{Op}
-use Rattle.vx_flow.specs.declared.graph.Op.TheVariants.{Compute, Select, Place, Load, Store, More, Input, Text, Decimal, Across, Base, PlaceIn}
+use Rattle.vx_flow.specs.declared.graph.Op.TheVariants.{Compute, Select, Place, Load, Store, Text, Decimal, Across, PlaceIn}
 use Rattle.vx_flow.specs.declared.trace.Homes.{Homes}
 use Rattle.vx_flow.specs.Effects.{IsIn, is_unary, value_in, reads, writes}
 use Rattle.vx_flow.specs.Sound.{Sound, operands_of}
@@ -123,23 +123,7 @@ some_issue m h = (limits m h).issue
 
 pub operands_code : (code : Code) (v : ℕ) (a b : Operand) → operands_of (Compute code v a b) ≡ (if is_unary code then a ∷ [] else a ∷ b ∷ [])
 operands_code Add v a b = refl
-operands_code Sub v a b = refl
-operands_code And v a b = refl
-operands_code Or v a b = refl
-operands_code Xor v a b = refl
-operands_code Shl v a b = refl
-operands_code Shr v a b = refl
-operands_code Shru v a b = refl
-operands_code Sh2add v a b = refl
-operands_code Max v a b = refl
-operands_code Min v a b = refl
-operands_code Mov v a b = refl
-operands_code (ToGeneral c) v a b = refl
-operands_code (ToBranch c) v a b = refl
-operands_code Mpylu v a b = refl
-operands_code Mpyhs v a b = refl
-operands_code Div v a b = refl
-operands_code Rem v a b = refl
+operands_code code v a b = refl
 
 compute_ports : (t : ℕ → Bool) (code : Code) (v : ℕ) (a b : Operand) → count_by t (reads (Compute code v a b)) ≤ ports (operands_of (Compute code v a b))
 compute_ports t code v a b = subst (λ ys. count_by t (reads (Compute code v a b)) ≤ ports ys) (sym (operands_code code v a b)) (by (is_unary code))
@@ -248,18 +232,10 @@ module _ (T : Target) (f : ℕ) (mapped : IsMapped T f) (sound : Sound (T.graph 
   write_cluster v = if holds_branch T f v then 0 else home T f v
 
   one_write : (op : Op) → (writes op ≡ []) ⊎ ((y : ℕ) × (writes op ≡ y ∷ []))
-  one_write (Compute code v a b) = inr (v, refl)
-  one_write (Select v q a b) = inr (v, refl)
-  one_write (Place v a i) = inr (v, refl)
-  one_write (Load v a q d) = inr (v, refl)
   one_write (Store a q x) = inl refl
-  one_write (More v) = inr (v, refl)
-  one_write (Input v) = inr (v, refl)
   one_write (Text n) = inl refl
   one_write (Decimal x) = inl refl
-  one_write (Across v u) = inr (v, refl)
-  one_write (Base v a x) = inr (v, refl)
-  one_write (PlaceIn v a u i) = inr (v, refl)
+  one_write op = inr (_, refl)
 
   in_all : (g : Laid → List ℕ) (x : Laid) (v : ℕ) (xs : List Laid) → IsIn x xs → IsIn v (g x) → IsIn v (flat_map g xs)
   in_all g x v [] i j = absurd i
@@ -360,7 +336,6 @@ module _ (T : Target) (f : ℕ) (mapped : IsMapped T f) (sound : Sound (T.graph 
   item_general v (Split test y q) e i =
       let z = count_none (Same v) (test ∷ []) (λ u j. ⊎_elim (λ s. not_general v u e (ap (holds_branch T f) s ∙ proper_test test q y items proper i)) (λ s. absurd s) j) in omega arith
   item_general v (Plain (Across x y) k) e i = plain_general v (Across x y) k (count_one (Same v) y) (λ u j s. across_source v x y k u e i (⊎_elim (λ q. q) (λ q. absurd q) j) s)
-  item_general v (Plain (Base x a y) k) e i = plain_general v (Base x a y) k (omega arith) (λ u j s. absurd j)
   item_general v (Plain (PlaceIn x a w y) k) e i =
       let one = operand_port (Same v) y in
       let two = count_one (Same v) w in
@@ -384,10 +359,8 @@ module _ (T : Target) (f : ℕ) (mapped : IsMapped T f) (sound : Sound (T.graph 
       let c = ports_cons (base_of q) (x ∷ []) in
       let d = count_by-append (Same v) (value_in q) (value_in x) in
       plain_general v (Store a q x) k (omega arith) (λ u j s. read_cluster v (Store a q x) k u e i j s (mapped.settled.reads_home p u k (Store a q x) items plans i j))
-  item_general v (Plain (More x) k) e i = plain_general v (More x) k (omega arith) (λ u j s. absurd j)
-  item_general v (Plain (Input x) k) e i = plain_general v (Input x) k (omega arith) (λ u j s. absurd j)
-  item_general v (Plain (Text n) k) e i = plain_general v (Text n) k (omega arith) (λ u j s. absurd j)
   item_general v (Plain (Decimal x) k) e i = plain_general v (Decimal x) k (operand_port (Same v) x) (λ u j s. read_cluster v (Decimal x) k u e i j s (mapped.settled.reads_home p u k (Decimal x) items plans i j))
+  item_general v (Plain op k) e i = plain_general v op k (omega arith) (λ u j s. absurd j)
 
   sum_general : (v : ℕ) (xs : List Laid) → holds_branch T f v ≡ false → ((x : Laid) → IsIn x xs → IsIn x items) → count_by (Same v) (laid_reads xs) ≤ reads_at TheHomes (home T f v) (map item_of_laid xs)
   sum_general v [] e h = omega arith
@@ -425,7 +398,6 @@ module _ (T : Target) (f : ℕ) (mapped : IsMapped T f) (sound : Sound (T.graph 
   item_branch : (v : ℕ) (x : Laid) → holds_branch T f v ≡ true → IsIn x items → count_by (Same v) (item_reads x) ≤ bit (((item_of_laid x).cluster == 0) && true)
   item_branch v (Split test y q) e i = count_one (Same v) test
   item_branch v (Plain (Across x y) k) e i = all_general v (y ∷ []) _ e (λ u j. ⊎_elim (λ s. ap (holds_branch T f) s ∙ (proper_op (Across x y) k items proper i).2) (λ s. absurd s) j)
-  item_branch v (Plain (Base x a y) k) e i = all_general v [] _ e (λ u j. absurd j)
   item_branch v (Plain (PlaceIn x a w y) k) e i =
       let h = proper_op (PlaceIn x a w y) k items proper i in
       all_general v (value_in y ++ w ∷ []) _ e (λ u j. ⊎_elim (operand_general y h.index u) (λ l. ⊎_elim (λ s. ap (holds_branch T f) s ∙ h.base_general) (λ z. absurd z) l) (in_either u (value_in y) (w ∷ []) j))
@@ -440,10 +412,8 @@ module _ (T : Target) (f : ℕ) (mapped : IsMapped T f) (sound : Sound (T.graph 
   item_branch v (Plain (Place x a y) k) e i = let h = proper_op (Place x a y) k items proper i in all_general v (value_in y) _ e (operand_general y h.1)
   item_branch v (Plain (Load x a q d) k) e i = let h = proper_op (Load x a q d) k items proper i in all_general v (value_in q) _ e (place_general a q h.1)
   item_branch v (Plain (Store a q x) k) e i = let h = proper_op (Store a q x) k items proper i in all_general v (value_in q ++ value_in x) _ e (λ u j. ⊎_elim (place_general a q h.0 u) (operand_general x h.1 u) (in_either u (value_in q) (value_in x) j))
-  item_branch v (Plain (More x) k) e i = all_general v [] _ e (λ u j. absurd j)
-  item_branch v (Plain (Input x) k) e i = all_general v [] _ e (λ u j. absurd j)
-  item_branch v (Plain (Text n) k) e i = all_general v [] _ e (λ u j. absurd j)
   item_branch v (Plain (Decimal x) k) e i = all_general v (value_in x) _ e (operand_general x (proper_op (Decimal x) k items proper i))
+  item_branch v (Plain op k) e i = all_general v [] _ e (λ u j. absurd j)
 
   sum_branch : (v : ℕ) (xs : List Laid) → holds_branch T f v ≡ true → ((x : Laid) → IsIn x xs → IsIn x items) → count_by (Same v) (laid_reads xs) ≤ count_at 0 (λ item. true) (map item_of_laid xs)
   sum_branch v [] e h = omega arith

@@ -3,7 +3,7 @@ use Rattle.std.proofs.Common.{◌≡◌, ℕ, ℤ, pos, negsuc, zero, suc, Bool,
 use Rattle.std.specs.Prelude.{if◌then◌else◌}
 use Rattle.vx_base.specs.Arithmetic.{value_of}
 use Rattle.vx_base.specs.declared.arithmetic.Code.{Code}
-use Rattle.vx_base.specs.declared.arithmetic.Code.TheVariants.{Add, Sub, And, Or, Xor, Shl, Shr, Shru, Sh2add, Max, Min, Mov, ToGeneral, ToBranch, Mpylu, Mpyhs, Div, Rem}
+use Rattle.vx_base.specs.declared.arithmetic.Code.TheVariants.{Add, ToBranch}
 use Rattle.vx_flow.specs.Effects.{is_unary, is_one as is_one_there}
 use Rattle.vx_isa.specs.declared.operation.GeneralRegister.{GeneralRegister}
 use Rattle.vx_isa.specs.declared.operation.Register.{Register}
@@ -66,20 +66,4 @@ module _ (w : WordProgram) (u : State) where
 
   pub computed_is : (k : ℕ) (code : Code) (to : Register) (g : GeneralRegister) (a b : Source) → Computed code to g a b (computes k code to g a b)
   computed_is k Add to g a b = record { plainly = record { bad = refl; takes = refl; prints = refl; stores = λ m. refl; leads = λ ops. refl }; to_is = refl; number = refl }
-  computed_is k Sub to g a b = record { plainly = record { bad = refl; takes = refl; prints = refl; stores = λ m. refl; leads = λ ops. refl }; to_is = refl; number = refl }
-  computed_is k And to g a b = record { plainly = record { bad = refl; takes = refl; prints = refl; stores = λ m. refl; leads = λ ops. refl }; to_is = refl; number = refl }
-  computed_is k Or to g a b = record { plainly = record { bad = refl; takes = refl; prints = refl; stores = λ m. refl; leads = λ ops. refl }; to_is = refl; number = refl }
-  computed_is k Xor to g a b = record { plainly = record { bad = refl; takes = refl; prints = refl; stores = λ m. refl; leads = λ ops. refl }; to_is = refl; number = refl }
-  computed_is k Shl to g a b = record { plainly = record { bad = refl; takes = refl; prints = refl; stores = λ m. refl; leads = λ ops. refl }; to_is = refl; number = refl }
-  computed_is k Shr to g a b = record { plainly = record { bad = refl; takes = refl; prints = refl; stores = λ m. refl; leads = λ ops. refl }; to_is = refl; number = refl }
-  computed_is k Shru to g a b = record { plainly = record { bad = refl; takes = refl; prints = refl; stores = λ m. refl; leads = λ ops. refl }; to_is = refl; number = refl }
-  computed_is k Sh2add to g a b = record { plainly = record { bad = refl; takes = refl; prints = refl; stores = λ m. refl; leads = λ ops. refl }; to_is = refl; number = refl }
-  computed_is k Max to g a b = record { plainly = record { bad = refl; takes = refl; prints = refl; stores = λ m. refl; leads = λ ops. refl }; to_is = refl; number = refl }
-  computed_is k Min to g a b = record { plainly = record { bad = refl; takes = refl; prints = refl; stores = λ m. refl; leads = λ ops. refl }; to_is = refl; number = refl }
-  computed_is k Mov to g a b = record { plainly = record { bad = refl; takes = refl; prints = refl; stores = λ m. refl; leads = λ ops. refl }; to_is = refl; number = refl }
-  computed_is k (ToGeneral c) to g a b = record { plainly = record { bad = refl; takes = refl; prints = refl; stores = λ m. refl; leads = λ ops. refl }; to_is = refl; number = refl }
-  computed_is k (ToBranch c) to g a b = record { plainly = record { bad = refl; takes = refl; prints = refl; stores = λ m. refl; leads = λ ops. refl }; to_is = refl; number = refl }
-  computed_is k Mpylu to g a b = record { plainly = record { bad = refl; takes = refl; prints = refl; stores = λ m. refl; leads = λ ops. refl }; to_is = refl; number = refl }
-  computed_is k Mpyhs to g a b = record { plainly = record { bad = refl; takes = refl; prints = refl; stores = λ m. refl; leads = λ ops. refl }; to_is = refl; number = refl }
-  computed_is k Div to g a b = record { plainly = record { bad = refl; takes = refl; prints = refl; stores = λ m. refl; leads = λ ops. refl }; to_is = refl; number = refl }
-  computed_is k Rem to g a b = record { plainly = record { bad = refl; takes = refl; prints = refl; stores = λ m. refl; leads = λ ops. refl }; to_is = refl; number = refl }
+  computed_is k code to g a b = record { plainly = record { bad = refl; takes = refl; prints = refl; stores = λ m. refl; leads = λ ops. refl }; to_is = refl; number = refl }

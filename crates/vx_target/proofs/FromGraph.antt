@@ -3,7 +3,7 @@ use Rattle.std.proofs.Common.{◌≡◌, ◌<◌, inl, inr, ⊎_elim, ◌%◌, �
 use Rattle.std.specs.Prelude.{if◌then◌else◌, slice_get}
 use Rattle.std.proofs.Math.Nat.{mod-eq_of_lt, mul-add-mod_self_right}
 use Rattle.vx_base.specs.declared.arithmetic.Code.{Code}
-use Rattle.vx_base.specs.declared.arithmetic.Code.TheVariants.{Add, Sub, And, Or, Xor, Shl, Shr, Shru, Sh2add, Max, Min, Mov, ToGeneral, ToBranch, Mpylu, Mpyhs, Div, Rem}
+use Rattle.vx_base.specs.declared.arithmetic.Code.TheVariants.{Add}
 use Rattle.vx_flow.specs.declared.graph.Array.{Array}
 use Rattle.vx_flow.specs.declared.graph.Bank.{Bank}
 use Rattle.vx_flow.specs.declared.graph.Bank.TheVariants.{General, Branch}
@@ -33,52 +33,16 @@ is_load (Load v a p d) = true
 is_load op = false
 
 pub undismissed : (op origin : Op) → is_load op ≡ false → op ≡ dismissed origin → origin ≡ op
-undismissed op (Compute code v a b) e h = sym h
-undismissed op (Select v p a b) e h = sym h
-undismissed op (Place v a i) e h = sym h
 undismissed op (Load v a p d) e h = absurd (let q : is_load op ≡ true = ap is_load h in let z : true ≡ false = sym q ∙ e in cc)
-undismissed op (Store a p x) e h = sym h
-undismissed op (More v) e h = sym h
-undismissed op (Input v) e h = sym h
-undismissed op (Text n) e h = sym h
-undismissed op (Decimal x) e h = sym h
-undismissed op (Across v u) e h = sym h
-undismissed op (Base v a x) e h = sym h
-undismissed op (PlaceIn v a u i) e h = sym h
+undismissed op o e h = sym h
 
 load_origin : (v a : ℕ) (p : Operand) (origin : Op) → Load v a p true ≡ dismissed origin → (d : Bool) × (origin ≡ Load v a p d)
-load_origin v a p (Compute code v2 a2 b) h = absurd (cc)
-load_origin v a p (Select v2 p2 a2 b) h = absurd (cc)
-load_origin v a p (Place v2 a2 i) h = absurd (cc)
 load_origin v a p (Load u b q d) h = (d, cc)
-load_origin v a p (Store a2 p2 x) h = absurd (cc)
-load_origin v a p (More v2) h = absurd (cc)
-load_origin v a p (Input v2) h = absurd (cc)
-load_origin v a p (Text n) h = absurd (cc)
-load_origin v a p (Decimal x) h = absurd (cc)
-load_origin v a p (Across v2 u) h = absurd (cc)
-load_origin v a p (Base v2 b x) h = absurd (cc)
-load_origin v a p (PlaceIn v2 a2 u i) h = absurd (cc)
+load_origin v a p op h = absurd cc
 
 bank_code : (code : Code) (v : ℕ) (a b : Operand) → is_branch (Some (bank_written (Compute code v a b))) ≡ to_branch code
 bank_code Add v a b = refl
-bank_code Sub v a b = refl
-bank_code And v a b = refl
-bank_code Or v a b = refl
-bank_code Xor v a b = refl
-bank_code Shl v a b = refl
-bank_code Shr v a b = refl
-bank_code Shru v a b = refl
-bank_code Sh2add v a b = refl
-bank_code Max v a b = refl
-bank_code Min v a b = refl
-bank_code Mov v a b = refl
-bank_code (ToGeneral c) v a b = refl
-bank_code (ToBranch c) v a b = refl
-bank_code Mpylu v a b = refl
-bank_code Mpyhs v a b = refl
-bank_code Div v a b = refl
-bank_code Rem v a b = refl
+bank_code code v a b = refl
 
 first_read : (code : Code) (v y : ℕ) (a b : Operand) → IsIn y (value_in a) → IsIn y (reads (Compute code v a b))
 first_read code v y a b i = by (is_unary code)

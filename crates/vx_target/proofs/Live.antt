@@ -7,7 +7,7 @@ use Rattle.vx_flow.specs.declared.graph.Bank.TheVariants.{General, Branch}
 use Rattle.vx_flow.specs.declared.graph.Operand.{Operand}
 use Rattle.vx_flow.specs.declared.graph.Operand.TheVariants.{Held, Number, Stack}
 use Rattle.vx_flow.specs.declared.graph.Op.{Op}
-use Rattle.vx_flow.specs.declared.graph.Op.TheVariants.{Compute, Select, Place, Load, Store, More, Input, Text, Decimal, Across, Base, PlaceIn}
+use Rattle.vx_flow.specs.declared.graph.Op.TheVariants.{More, Input, Text, Across, Base}
 use Rattle.vx_flow.specs.declared.graph.Exit.{Exit}
 use Rattle.vx_flow.specs.declared.graph.Exit.TheVariants.{Split as Branches, Call as Calling, Return as Returning}
 use Rattle.vx_flow.specs.Effects.{IsIn, dismissed, value_in, reads}
@@ -76,16 +76,10 @@ module _ (T : Target) (f : ℕ) (mapped : IsMapped T f) (sound : Sound (T.graph 
         let h = across_of (Across x y) (mapped.code.ops p k (Across x y) items plans i) x y refl in
         ⊎_elim (λ e. has_bank v General (subst (λ z. Has (T.graph f) z General) (sym e) h)) (λ j. absurd j) r
     read_bank (Base x a y) k v i r = absurd r
-    read_bank (PlaceIn x a u y) k v i r = stands_bank v k (mapped.settled.reads_home p v k (PlaceIn x a u y) items plans i r)
-    read_bank (Compute code x a b) k v i r = stands_bank v k (mapped.settled.reads_home p v k (Compute code x a b) items plans i r)
-    read_bank (Select x q a b) k v i r = stands_bank v k (mapped.settled.reads_home p v k (Select x q a b) items plans i r)
-    read_bank (Place x a y) k v i r = stands_bank v k (mapped.settled.reads_home p v k (Place x a y) items plans i r)
-    read_bank (Load x a q d) k v i r = stands_bank v k (mapped.settled.reads_home p v k (Load x a q d) items plans i r)
-    read_bank (Store a q x) k v i r = stands_bank v k (mapped.settled.reads_home p v k (Store a q x) items plans i r)
     read_bank (More x) k v i r = absurd r
     read_bank (Input x) k v i r = absurd r
     read_bank (Text n) k v i r = absurd r
-    read_bank (Decimal x) k v i r = stands_bank v k (mapped.settled.reads_home p v k (Decimal x) items plans i r)
+    read_bank op k v i r = stands_bank v k (mapped.settled.reads_home p v k op items plans i r)
 
     item_read : (x : Laid) (v : ℕ) → IsIn x items → IsIn v (item_reads x) → Banked v
     item_read (Plain op k) v i r = read_bank op k v i r

@@ -6,7 +6,7 @@ use Rattle.std.specs.Fmt.{signed_decimal}
 use Rattle.std.proofs.lemmas.List.{append-nil}
 use Rattle.vx_base.specs.Arithmetic.{sum_of, value_of, one_if, compare_of, product_of}
 use Rattle.vx_base.specs.declared.arithmetic.Code.{Code}
-use Rattle.vx_base.specs.declared.arithmetic.Code.TheVariants.{Add, Sub, And, Or, Xor, Shl, Shr, Shru, Sh2add, Max, Min, Mov, ToGeneral, ToBranch, Mpylu, Mpyhs, Div, Rem}
+use Rattle.vx_base.specs.declared.arithmetic.Code.TheVariants.{Add, Sh2add, Mov, ToBranch}
 use Rattle.vx_flow.specs.declared.graph.Operand.{Operand}
 use Rattle.vx_flow.specs.declared.graph.Op.{Op}
 use Rattle.vx_flow.specs.declared.graph.Op.TheVariants.{Compute as Computes, Select as Selects, Place, Load as Loads, Store as Stores, More as Asks, Input as Takes, Text, Decimal, Across, Base, PlaceIn}
@@ -47,24 +47,8 @@ answer_of true = inr refl
 answer_of false = inl refl
 
 answers : (code : Code) (a b : ℤ) → IsAnswer (to_branch code) (value_of code a b)
-answers Add a b = λ e. absurd (cc)
-answers Sub a b = λ e. absurd (cc)
-answers And a b = λ e. absurd (cc)
-answers Or a b = λ e. absurd (cc)
-answers Xor a b = λ e. absurd (cc)
-answers Shl a b = λ e. absurd (cc)
-answers Shr a b = λ e. absurd (cc)
-answers Shru a b = λ e. absurd (cc)
-answers Sh2add a b = λ e. absurd (cc)
-answers Max a b = λ e. absurd (cc)
-answers Min a b = λ e. absurd (cc)
-answers Mov a b = λ e. absurd (cc)
-answers (ToGeneral c) a b = λ e. absurd (cc)
 answers (ToBranch c) a b = λ e. answer_of (compare_of c a b)
-answers Mpylu a b = λ e. absurd (cc)
-answers Mpyhs a b = λ e. absurd (cc)
-answers Div a b = λ e. absurd (cc)
-answers Rem a b = λ e. absurd (cc)
+answers code a b = λ e. absurd cc
 
 unary_general : (code : Code) → is_unary code ≡ true → to_branch code ≡ false
 unary_general Mov e = refl

@@ -7,7 +7,7 @@ use Rattle.vx_flow.specs.declared.graph.Array.{Array}
 use Rattle.vx_flow.specs.declared.graph.Graph.{Graph}
 use Rattle.vx_flow.specs.declared.graph.Operand.{Operand}
 use Rattle.vx_flow.specs.declared.graph.Op.{Op}
-use Rattle.vx_flow.specs.declared.graph.Op.TheVariants.{Compute, Select, Place, Load, Store, More, Input, Text, Decimal, Across, Base, PlaceIn}
+use Rattle.vx_flow.specs.declared.graph.Op.TheVariants.{Place, PlaceIn}
 use Rattle.vx_flow.specs.Effects.{IsIn}
 use Rattle.vx_flow.specs.Sound.{is_given, is_own, is_local, is_handed, base_of, base_at, is_base, HasOperation, MakesPlace, by_itself, by_base, IsPlace, in_own, in_handed, IsBase, Sound}
 use Rattle.vx_flow.proofs.Members.{in_left, in_right, in_either}
@@ -67,17 +67,7 @@ own_op : (g : Graph) (v : ℕ) (op : Op) → places_own g v op ≡ true → (a :
 own_op g v (Place u a i) e =
     let parts = and_parts (eqb u v) (is_local g.arrays a) e in
     (a, i, ap (λ x. Place x a i) (eqb-true u v parts.0), parts.1)
-own_op g v (Compute code y a b) e = absurd (cc)
-own_op g v (Select y p a b) e = absurd (cc)
-own_op g v (Load y a p d) e = absurd (cc)
-own_op g v (Store a p x) e = absurd (cc)
-own_op g v (More y) e = absurd (cc)
-own_op g v (Input y) e = absurd (cc)
-own_op g v (Text n) e = absurd (cc)
-own_op g v (Decimal x) e = absurd (cc)
-own_op g v (Across y u) e = absurd (cc)
-own_op g v (Base y a x) e = absurd (cc)
-own_op g v (PlaceIn y a u i) e = absurd (cc)
+own_op g v op e = absurd cc
 
 pub own_made : (g : Graph) (v : ℕ) → is_own_place g v ≡ true → OwnMade g v
 own_made g v e =
@@ -96,17 +86,7 @@ handed_op v a (PlaceIn y b u i) e = by (eqb y v) refl e
     by true q (inl k) = (u, i, ap (λ x. PlaceIn x b u i) (eqb-true y v q) ∙ ap (λ x. PlaceIn v x u i) (sym k))
     by true q (inr k) = absurd k
     by false q k = absurd k
-handed_op v a (Place y b i) e = absurd e
-handed_op v a (Compute code y b c) e = absurd e
-handed_op v a (Select y p b c) e = absurd e
-handed_op v a (Load y b p d) e = absurd e
-handed_op v a (Store b p x) e = absurd e
-handed_op v a (More y) e = absurd e
-handed_op v a (Input y) e = absurd e
-handed_op v a (Text n) e = absurd e
-handed_op v a (Decimal x) e = absurd e
-handed_op v a (Across y u) e = absurd e
-handed_op v a (Base y b x) e = absurd e
+handed_op v a op e = absurd e
 
 pub handed_made : (g : Graph) (v a : ℕ) → IsIn a (handed_of g v) → HandedMade g v a
 handed_made g v a i =

@@ -5,7 +5,7 @@ use Rattle.std.specs.Cmp.Derive.{both_true}
 use Rattle.std.proofs.lemmas.Bool.{and_parts, le-leb, lt-ltb, ltb-true}
 use Rattle.std.proofs.lemmas.List.Folds.{list_all-append}
 use Rattle.vx_base.specs.declared.arithmetic.Code.{Code}
-use Rattle.vx_base.specs.declared.arithmetic.Code.TheVariants.{Add, Sub, And, Or, Xor, Shl, Shr, Shru, Sh2add, Max, Min, Mov, ToGeneral, ToBranch, Mpylu, Mpyhs, Div, Rem}
+use Rattle.vx_base.specs.declared.arithmetic.Code.TheVariants.{Mov, ToBranch}
 use Rattle.vx_flow.specs.Effects.{is_unary}
 use Rattle.vx_isa.specs.declared.operation.BranchRegister.{BranchRegister}
 use Rattle.vx_isa.specs.declared.operation.GeneralRegister.{GeneralRegister}
@@ -63,64 +63,17 @@ yes_no e = cc
 
 -- a code that moves is carried by a move
 pub computes_formed : (words texts k : ℕ) (code : Code) (to : Register) (g : GeneralRegister) (a b : Source) → (is_unary code ≡ false → HasForm code to) → Formed words texts (computes k code to g a b)
-computes_formed words texts k Add to g a b h = h refl
-computes_formed words texts k Sub to g a b h = h refl
-computes_formed words texts k And to g a b h = h refl
-computes_formed words texts k Or to g a b h = h refl
-computes_formed words texts k Xor to g a b h = h refl
-computes_formed words texts k Shl to g a b h = h refl
-computes_formed words texts k Shr to g a b h = h refl
-computes_formed words texts k Shru to g a b h = h refl
-computes_formed words texts k Sh2add to g a b h = h refl
-computes_formed words texts k Max to g a b h = h refl
-computes_formed words texts k Min to g a b h = h refl
 computes_formed words texts k Mov to g a b h = tt
-computes_formed words texts k (ToGeneral c) to g a b h = h refl
-computes_formed words texts k (ToBranch c) to g a b h = h refl
-computes_formed words texts k Mpylu to g a b h = h refl
-computes_formed words texts k Mpyhs to g a b h = h refl
-computes_formed words texts k Div to g a b h = h refl
-computes_formed words texts k Rem to g a b h = h refl
+computes_formed words texts k code to g a b h = h refl
 
 branch_destination : (code : Code) (r : BranchRegister) → to_branch code ≡ true → is_destination code (Branch r) ≡ can_name_branch r
-branch_destination Add r e = absurd (not_so e)
-branch_destination Sub r e = absurd (not_so e)
-branch_destination And r e = absurd (not_so e)
-branch_destination Or r e = absurd (not_so e)
-branch_destination Xor r e = absurd (not_so e)
-branch_destination Shl r e = absurd (not_so e)
-branch_destination Shr r e = absurd (not_so e)
-branch_destination Shru r e = absurd (not_so e)
-branch_destination Sh2add r e = absurd (not_so e)
-branch_destination Max r e = absurd (not_so e)
-branch_destination Min r e = absurd (not_so e)
-branch_destination Mov r e = absurd (not_so e)
-branch_destination (ToGeneral c) r e = absurd (not_so e)
 branch_destination (ToBranch c) r e = refl
-branch_destination Mpylu r e = absurd (not_so e)
-branch_destination Mpyhs r e = absurd (not_so e)
-branch_destination Div r e = absurd (not_so e)
-branch_destination Rem r e = absurd (not_so e)
+branch_destination code r e = absurd (not_so e)
 
 general_destination : (code : Code) (r : GeneralRegister) → to_branch code ≡ false → is_unary code ≡ false → is_destination code (General r) ≡ can_name r
-general_destination Add r e m = refl
-general_destination Sub r e m = refl
-general_destination And r e m = refl
-general_destination Or r e m = refl
-general_destination Xor r e m = refl
-general_destination Shl r e m = refl
-general_destination Shr r e m = refl
-general_destination Shru r e m = refl
-general_destination Sh2add r e m = refl
-general_destination Max r e m = refl
-general_destination Min r e m = refl
 general_destination Mov r e m = absurd (yes_no m)
-general_destination (ToGeneral c) r e m = refl
 general_destination (ToBranch c) r e m = absurd (yes_no e)
-general_destination Mpylu r e m = refl
-general_destination Mpyhs r e m = refl
-general_destination Div r e m = refl
-general_destination Rem r e m = refl
+general_destination code r e m = refl
 
 module _ (m : Numbers) (l : Limits m) (words texts : ℕ) where
   abbrev InFile : Register → Bool

@@ -7,7 +7,7 @@ use Rattle.std.proofs.lemmas.Bool.{and_parts, eqb-true, ne_eqb, lt-ltb, ltb-true
 use Rattle.std.proofs.lemmas.Bool.Decides.{nat_tests}
 use Rattle.std.proofs.lemmas.List.Folds.{list_all-append}
 use Rattle.vx_base.specs.declared.arithmetic.Code.{Code}
-use Rattle.vx_base.specs.declared.arithmetic.Code.TheVariants.{Add, Sub, And, Or, Xor, Shl, Shr, Shru, Sh2add, Max, Min, Mov, ToGeneral, ToBranch, Mpylu, Mpyhs, Div, Rem}
+use Rattle.vx_base.specs.declared.arithmetic.Code.TheVariants.{Add, Mov, ToBranch, Mpylu, Mpyhs, Div, Rem}
 use Rattle.vx_flow.specs.declared.graph.Bank.{Bank}
 use Rattle.vx_flow.specs.declared.graph.Bank.TheVariants.{General as GeneralBank, Branch as BranchBank}
 use Rattle.vx_flow.specs.declared.graph.Operand.{Operand}
@@ -63,64 +63,16 @@ record Computing (k : ℕ) (code : Code) (to : Register) (g : GeneralRegister) (
   keeps : eqb (cluster_of_register (if is_unary code then General g else to)) k ≡ true → all_on k (reads_of o) ≡ true → keeps_to_cluster o ≡ true
 
 computing : (k : ℕ) (code : Code) (to : Register) (g : GeneralRegister) (a b : Source) → Computing k code to g a b (computes k code to g a b)
-computing k Add to g a b = record { cluster = refl; reads = refl; to_is = refl; unit = λ e. refl; observable = refl; keeps = λ e h. both_true e h }
-computing k Sub to g a b = record { cluster = refl; reads = refl; to_is = refl; unit = λ e. refl; observable = refl; keeps = λ e h. both_true e h }
-computing k And to g a b = record { cluster = refl; reads = refl; to_is = refl; unit = λ e. refl; observable = refl; keeps = λ e h. both_true e h }
-computing k Or to g a b = record { cluster = refl; reads = refl; to_is = refl; unit = λ e. refl; observable = refl; keeps = λ e h. both_true e h }
-computing k Xor to g a b = record { cluster = refl; reads = refl; to_is = refl; unit = λ e. refl; observable = refl; keeps = λ e h. both_true e h }
-computing k Shl to g a b = record { cluster = refl; reads = refl; to_is = refl; unit = λ e. refl; observable = refl; keeps = λ e h. both_true e h }
-computing k Shr to g a b = record { cluster = refl; reads = refl; to_is = refl; unit = λ e. refl; observable = refl; keeps = λ e h. both_true e h }
-computing k Shru to g a b = record { cluster = refl; reads = refl; to_is = refl; unit = λ e. refl; observable = refl; keeps = λ e h. both_true e h }
-computing k Sh2add to g a b = record { cluster = refl; reads = refl; to_is = refl; unit = λ e. refl; observable = refl; keeps = λ e h. both_true e h }
-computing k Max to g a b = record { cluster = refl; reads = refl; to_is = refl; unit = λ e. refl; observable = refl; keeps = λ e h. both_true e h }
-computing k Min to g a b = record { cluster = refl; reads = refl; to_is = refl; unit = λ e. refl; observable = refl; keeps = λ e h. both_true e h }
 computing k Mov to g a b = record { cluster = refl; reads = refl; to_is = refl; unit = λ e. ap (λ t. if t then Alu else Copies) e; observable = refl; keeps = λ e h. e }
-computing k (ToGeneral c) to g a b = record { cluster = refl; reads = refl; to_is = refl; unit = λ e. refl; observable = refl; keeps = λ e h. both_true e h }
-computing k (ToBranch c) to g a b = record { cluster = refl; reads = refl; to_is = refl; unit = λ e. refl; observable = refl; keeps = λ e h. both_true e h }
-computing k Mpylu to g a b = record { cluster = refl; reads = refl; to_is = refl; unit = λ e. refl; observable = refl; keeps = λ e h. both_true e h }
-computing k Mpyhs to g a b = record { cluster = refl; reads = refl; to_is = refl; unit = λ e. refl; observable = refl; keeps = λ e h. both_true e h }
-computing k Div to g a b = record { cluster = refl; reads = refl; to_is = refl; unit = λ e. refl; observable = refl; keeps = λ e h. both_true e h }
-computing k Rem to g a b = record { cluster = refl; reads = refl; to_is = refl; unit = λ e. refl; observable = refl; keeps = λ e h. both_true e h }
+computing k code to g a b = record { cluster = refl; reads = refl; to_is = refl; unit = λ e. refl; observable = refl; keeps = λ e h. both_true e h }
 
 general_code : (code : Code) (v : ℕ) (a b : Operand) → writes_general_op (Computes code v a b) ≡ not (to_branch code)
 general_code Add v a b = refl
-general_code Sub v a b = refl
-general_code And v a b = refl
-general_code Or v a b = refl
-general_code Xor v a b = refl
-general_code Shl v a b = refl
-general_code Shr v a b = refl
-general_code Shru v a b = refl
-general_code Sh2add v a b = refl
-general_code Max v a b = refl
-general_code Min v a b = refl
-general_code Mov v a b = refl
-general_code (ToGeneral c) v a b = refl
-general_code (ToBranch c) v a b = refl
-general_code Mpylu v a b = refl
-general_code Mpyhs v a b = refl
-general_code Div v a b = refl
-general_code Rem v a b = refl
+general_code code v a b = refl
 
 unary_general : (code : Code) → is_unary code ≡ true → to_branch code ≡ false
-unary_general Add e = refl
-unary_general Sub e = refl
-unary_general And e = refl
-unary_general Or e = refl
-unary_general Xor e = refl
-unary_general Shl e = refl
-unary_general Shr e = refl
-unary_general Shru e = refl
-unary_general Sh2add e = refl
-unary_general Max e = refl
-unary_general Min e = refl
-unary_general Mov e = refl
-unary_general (ToGeneral c) e = refl
 unary_general (ToBranch c) e = absurd (cc)
-unary_general Mpylu e = refl
-unary_general Mpyhs e = refl
-unary_general Div e = refl
-unary_general Rem e = refl
+unary_general code e = refl
 
 -- no operation on values takes a control place
 

@@ -5,7 +5,7 @@ use Rattle.std.specs.List.{flat_map, list_any}
 use Rattle.std.proofs.lemmas.Bool.{ne_eqb, false≢true}
 use Rattle.std.proofs.lemmas.Bool.Decides.{nat_tests}
 use Rattle.vx_base.specs.declared.arithmetic.Code.{Code}
-use Rattle.vx_base.specs.declared.arithmetic.Code.TheVariants.{Add, Sub, And, Or, Xor, Shl, Shr, Shru, Sh2add, Max, Min, Mov, ToGeneral, ToBranch, Mpylu, Mpyhs, Div, Rem}
+use Rattle.vx_base.specs.declared.arithmetic.Code.TheVariants.{Add, Mov, ToBranch}
 use Rattle.vx_base.proofs.Pieces.{Hit}
 use Rattle.vx_flow.specs.declared.graph.Operand.{Operand}
 use Rattle.vx_flow.specs.declared.graph.Operand.TheVariants.{Held as HeldValue, Number as AsNumber, Stack}
@@ -84,24 +84,9 @@ record Computing (m : Numbers) (k : ℕ) (code : Code) (to : Register) (g : Gene
   jumps_on : (ops : List Operation) (q : ℕ) → Jumps (o ∷ ops) q → Jumps ops q
 
 computing : (m : Numbers) (k : ℕ) (code : Code) (to : Register) (g : GeneralRegister) (a b : Source) → Computing m k code to g a b (computes k code to g a b)
-computing m k Add to g a b = record { reads_are = refl; to_is = refl; unary = λ e. refl; latency = λ e. refl; falls_on = λ ops. refl; jumps_on = λ ops q j. j }
-computing m k Sub to g a b = record { reads_are = refl; to_is = refl; unary = λ e. refl; latency = λ e. refl; falls_on = λ ops. refl; jumps_on = λ ops q j. j }
-computing m k And to g a b = record { reads_are = refl; to_is = refl; unary = λ e. refl; latency = λ e. refl; falls_on = λ ops. refl; jumps_on = λ ops q j. j }
-computing m k Or to g a b = record { reads_are = refl; to_is = refl; unary = λ e. refl; latency = λ e. refl; falls_on = λ ops. refl; jumps_on = λ ops q j. j }
-computing m k Xor to g a b = record { reads_are = refl; to_is = refl; unary = λ e. refl; latency = λ e. refl; falls_on = λ ops. refl; jumps_on = λ ops q j. j }
-computing m k Shl to g a b = record { reads_are = refl; to_is = refl; unary = λ e. refl; latency = λ e. refl; falls_on = λ ops. refl; jumps_on = λ ops q j. j }
-computing m k Shr to g a b = record { reads_are = refl; to_is = refl; unary = λ e. refl; latency = λ e. refl; falls_on = λ ops. refl; jumps_on = λ ops q j. j }
-computing m k Shru to g a b = record { reads_are = refl; to_is = refl; unary = λ e. refl; latency = λ e. refl; falls_on = λ ops. refl; jumps_on = λ ops q j. j }
-computing m k Sh2add to g a b = record { reads_are = refl; to_is = refl; unary = λ e. refl; latency = λ e. refl; falls_on = λ ops. refl; jumps_on = λ ops q j. j }
-computing m k Max to g a b = record { reads_are = refl; to_is = refl; unary = λ e. refl; latency = λ e. refl; falls_on = λ ops. refl; jumps_on = λ ops q j. j }
-computing m k Min to g a b = record { reads_are = refl; to_is = refl; unary = λ e. refl; latency = λ e. refl; falls_on = λ ops. refl; jumps_on = λ ops q j. j }
 computing m k Mov to g a b = record { reads_are = refl; to_is = refl; unary = λ e. refl; latency = λ e. ap (λ t. if t then m.latency_alu else m.latency_copy) e; falls_on = λ ops. refl; jumps_on = λ ops q j. j }
-computing m k (ToGeneral c) to g a b = record { reads_are = refl; to_is = refl; unary = λ e. refl; latency = λ e. refl; falls_on = λ ops. refl; jumps_on = λ ops q j. j }
 computing m k (ToBranch c) to g a b = record { reads_are = refl; to_is = refl; unary = λ e. absurd (cc); latency = λ e. refl; falls_on = λ ops. refl; jumps_on = λ ops q j. j }
-computing m k Mpylu to g a b = record { reads_are = refl; to_is = refl; unary = λ e. refl; latency = λ e. refl; falls_on = λ ops. refl; jumps_on = λ ops q j. j }
-computing m k Mpyhs to g a b = record { reads_are = refl; to_is = refl; unary = λ e. refl; latency = λ e. refl; falls_on = λ ops. refl; jumps_on = λ ops q j. j }
-computing m k Div to g a b = record { reads_are = refl; to_is = refl; unary = λ e. refl; latency = λ e. refl; falls_on = λ ops. refl; jumps_on = λ ops q j. j }
-computing m k Rem to g a b = record { reads_are = refl; to_is = refl; unary = λ e. refl; latency = λ e. refl; falls_on = λ ops. refl; jumps_on = λ ops q j. j }
+computing m k code to g a b = record { reads_are = refl; to_is = refl; unary = λ e. refl; latency = λ e. refl; falls_on = λ ops. refl; jumps_on = λ ops q j. j }
 
 -- a register that is read: it names one of some values, or is a register 0, or a stack pointer
 pub data ReadBy (T : Target) (f : ℕ) (names vs : List ℕ) (r : Register) : Type 0 where
@@ -269,59 +254,33 @@ module _ (T : Target) (f : ℕ) (IsArray : ℕ → Type 0) where
             by : (c : Bool) → IsIn y (if c then value_in a else value_in a ++ value_in b)
             by true = i
             by false = in_left y (value_in a) (value_in b) i
-    op_latency (Selects v t a b) k h here away = refl
-    op_latency (Place v a x) k h here away = refl
-    op_latency (Loads v a q d) k h here away = refl
-    op_latency (Stores a q x) k h here away = refl
-    op_latency (Asks v) k h here away = refl
-    op_latency (Takes v) k h here away = refl
-    op_latency (Text n) k h here away = refl
-    op_latency (Decimal x) k h here away = refl
     op_latency (Across v u) k h here away = ap (λ t. if t then T.machine.latency_alu else T.machine.latency_copy) (ne_eqb (home T f u) k (away v u refl))
     op_latency (Base v a x) k h here away = by (is_own T f a)
       where
         by : (own : Bool) → latency_of T.machine (if own then Compute k Add (General (general_of T f Ws v)) (Held (stack_on k)) (Number (bytes (T.array_at f a))) else Move k (general_of T f Ws v) (Number (bytes (T.array_at f a)))) ≡ T.machine.latency_alu
         by true = refl
         by false = refl
-    op_latency (PlaceIn v a u x) k h here away = refl
+    op_latency op k h here away = refl
 
     -- the next word may follow, and splits alone lead elsewhere
 
     op_falls : (op : Op) (k : ℕ) (ops : List Operation) → falls (carried T f Rs Ws k op ∷ ops) ≡ falls ops
     op_falls (Computes code v a b) k ops = (computing T.machine k code (register_of T f Ws v) (general_of T f Ws v) (source_of N a) (source_of N b)).falls_on ops
-    op_falls (Selects v t a b) k ops = refl
-    op_falls (Place v a x) k ops = refl
-    op_falls (Loads v a q d) k ops = refl
-    op_falls (Stores a q x) k ops = refl
-    op_falls (Asks v) k ops = refl
-    op_falls (Takes v) k ops = refl
-    op_falls (Text n) k ops = refl
-    op_falls (Decimal x) k ops = refl
-    op_falls (Across v u) k ops = refl
     op_falls (Base v a x) k ops = by (is_own T f a)
       where
         by : (own : Bool) → falls ((if own then Compute k Add (General (general_of T f Ws v)) (Held (stack_on k)) (Number (bytes (T.array_at f a))) else Move k (general_of T f Ws v) (Number (bytes (T.array_at f a)))) ∷ ops) ≡ falls ops
         by true = refl
         by false = refl
-    op_falls (PlaceIn v a u x) k ops = refl
+    op_falls op k ops = refl
 
     op_jumps : (op : Op) (k : ℕ) (ops : List Operation) (q : ℕ) → Jumps (carried T f Rs Ws k op ∷ ops) q → Jumps ops q
     op_jumps (Computes code v a b) k ops q j = (computing T.machine k code (register_of T f Ws v) (general_of T f Ws v) (source_of N a) (source_of N b)).jumps_on ops q j
-    op_jumps (Selects v t a b) k ops q j = j
-    op_jumps (Place v a x) k ops q j = j
-    op_jumps (Loads v a d x) k ops q j = j
-    op_jumps (Stores a d x) k ops q j = j
-    op_jumps (Asks v) k ops q j = j
-    op_jumps (Takes v) k ops q j = j
-    op_jumps (Text n) k ops q j = j
-    op_jumps (Decimal x) k ops q j = j
-    op_jumps (Across v u) k ops q j = j
     op_jumps (Base v a x) k ops q j = by (is_own T f a) j
       where
         by : (own : Bool) → Jumps ((if own then Compute k Add (General (general_of T f Ws v)) (Held (stack_on k)) (Number (bytes (T.array_at f a))) else Move k (general_of T f Ws v) (Number (bytes (T.array_at f a)))) ∷ ops) q → Jumps ops q
         by true l = l
         by false l = l
-    op_jumps (PlaceIn v a u x) k ops q j = j
+    op_jumps op k ops q j = j
 
     module _ (p : ℕ) where
       pub items_fall : (xs : List Laid) → falls (carried_items T f p Rs Ws xs) ≡ true

@@ -13,7 +13,7 @@ use Rattle.vx_flow.specs.declared.graph.Flow.{Flow}
 use Rattle.vx_flow.specs.declared.graph.Operand.{Operand}
 use Rattle.vx_flow.specs.declared.graph.Operand.TheVariants.{Held as HeldValue, Number as AsNumber, Stack}
 use Rattle.vx_flow.specs.declared.graph.Op.{Op}
-use Rattle.vx_flow.specs.declared.graph.Op.TheVariants.{Compute as Computes, Select as Selects, Place, Load as Loads, Store as Stores, More as Asks, Input as Takes, Text, Decimal, Across, Base, PlaceIn}
+use Rattle.vx_flow.specs.declared.graph.Op.TheVariants.{Compute as Computes, Place, Text, Base, PlaceIn}
 use Rattle.vx_flow.specs.Effects.{IsIn, is_unary}
 use Rattle.vx_flow.specs.Sound.{Sound, SoundFlow, HasOperation, is_sound_flow}
 use Rattle.vx_flow.specs.Walk.{numbers}
@@ -443,21 +443,15 @@ module _ (T : Target) (flow : Flow) (ls : List VWords) (w : WordProgram) (sound 
 
       operation_formed : (op : Op) (k : ℕ) → IsIn (Plain op k) items → Is (carried T f Rs Ws k op)
       operation_formed (Computes code v a b) k i = let h = proper (Computes code v a b) k i in computes_formed W N k code (register_of T f Ws v) (general_of T f Ws v) _ _ (written code v h.1)
-      operation_formed (Selects v q a b) k i = tt
       operation_formed (Place v a x) k i = (refl, refl)
-      operation_formed (Loads v a q d) k i = tt
-      operation_formed (Stores a q x) k i = tt
-      operation_formed (Asks v) k i = tt
-      operation_formed (Takes v) k i = tt
       operation_formed (Text n) k i = text_there n (comes (Text n) k i)
-      operation_formed (Decimal x) k i = tt
-      operation_formed (Across v u) k i = tt
       operation_formed (Base v a x) k i = by (is_own T f a)
         where
           by : (own : Bool) → Is (if own then Compute k Add (InGeneral (general_of T f Ws v)) (Held (stack_on k)) (Number (bytes (T.array_at f a))) else Move k (general_of T f Ws v) (Number (bytes (T.array_at f a))))
           by true = (refl, refl)
           by false = tt
       operation_formed (PlaceIn v a u x) k i = (refl, refl)
+      operation_formed op k i = tt
 
       leads_below : (test q : ℕ) (y : Bool) → IsIn (Split test y q) items → leads T f p (slotted T f Ws) q < W
       leads_below test q y i = by (slotted T f Ws) refl

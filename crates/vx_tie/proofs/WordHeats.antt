@@ -8,7 +8,7 @@ use Rattle.std.proofs.lemmas.List.{append-nil}
 use Rattle.vx_base.proofs.Pieces.{Hit, raised, cold, fine_less, fine_append}
 use Rattle.vx_flow.specs.declared.graph.Array.{Array}
 use Rattle.vx_flow.specs.declared.graph.Op.{Op}
-use Rattle.vx_flow.specs.declared.graph.Op.TheVariants.{Compute, Select, Place, Load, Store, More, Input, Text, Decimal, Across, Base, PlaceIn}
+use Rattle.vx_flow.specs.declared.graph.Op.TheVariants.{Across}
 use Rattle.vx_flow.specs.Effects.{IsIn, reads, writes}
 use Rattle.vx_flow.specs.Sound.{Sound}
 use Rattle.vx_flow.specs.Operands.{read_by as reading, written_by, value_list}
@@ -64,18 +64,8 @@ map_among g r v (u ∷ vs) i e = ⊎_elim (λ q. inl (e ∙ ap g q)) (λ k. inr 
 
 -- what an operation names on its own cluster it reads
 all_there : (op : Op) (y : ℕ) → IsIn y (read_there op) → IsIn y (reads op)
-all_there (Compute code v a b) y i = i
-all_there (Select v t a b) y i = i
-all_there (Place v a x) y i = i
-all_there (Load v a q d) y i = i
-all_there (Store a q x) y i = i
-all_there (More v) y i = i
-all_there (Input v) y i = i
-all_there (Text n) y i = i
-all_there (Decimal x) y i = i
 all_there (Across v u) y i = absurd i
-all_there (Base v a x) y i = i
-all_there (PlaceIn v a u x) y i = i
+all_there op y i = i
 
 -- a value that is in a register other than r is named by another register
 
