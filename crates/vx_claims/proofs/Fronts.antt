@@ -12,7 +12,7 @@ use Rattle.vx_claims.specs.declared.access.Access.{Access}
 use Rattle.vx_claims.specs.declared.access.Access.TheVariants.{Placed}
 use Rattle.vx_claims.specs.Facts.{is_claimed, has_equals, range, residue, finer_if, meet, meet_if, decided_by, decided_if, first_of, found, found_if, same_code, same_operand}
 use Rattle.vx_claims.specs.Residues.{finer}
-use Rattle.vx_claims.specs.Accesses.{first_or, place_in, value_if}
+use Rattle.vx_claims.specs.Accesses.{first_or, is_told, place_in, same_access, value_if}
 
 pub front : {X : Type 0} (xs : List X) (d x : X) → 1 ≤ length xs → get_or xs 0 d ≡ x → xs ≡ x ∷ take (length xs - 1) (drop 1 xs)
 front [] d x n e = absurd (omega (arith, n))
@@ -114,3 +114,15 @@ pub not_all : (r s t u : Bool) → u ≡ t → u ≡ false → u ≡ (r && (s &&
 not_all false s t u e h = h
 not_all true false t u e h = h
 not_all true true t u e h = e
+
+-- ---- whether something is told
+
+pub told_at : (xs : List Access) (i : ℕ) (d x : Access) → i < length xs → same_access x (get_or xs i d) ≡ true → is_told xs x ≡ true
+told_at [] i d x n h = absurd (omega (arith, n))
+told_at (y ∷ ys) zero d x n h = ap (λ t. t || is_told ys x) h
+told_at (y ∷ ys) (suc i) d x n h = either_true (same_access x y) (is_told ys x) (told_at ys i d x (omega (arith, n)) h)
+
+pub told_behind : (k : ℕ) (xs : List Access) (x : Access) → is_told (drop k xs) x ≡ true → is_told xs x ≡ true
+told_behind zero xs x h = h
+told_behind (suc k) [] x h = h
+told_behind (suc k) (y ∷ ys) x h = either_true (same_access x y) (is_told ys x) (told_behind k ys x h)

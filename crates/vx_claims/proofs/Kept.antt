@@ -1,8 +1,7 @@
 -- What is known behind an operation, as it is kept in place.
-use Rattle.std.proofs.Common.{◌≡◌, ℕ, zero, suc, ◌≤◌, Bool, true, false, ◌||◌, ◌==◌, pos, List, [], ◌∷◌, ◌++◌, length, Option, Some, None, refl, sym, ap, ◌∙◌, arith}
+use Rattle.std.proofs.Common.{◌≡◌, ℕ, zero, suc, ◌≤◌, Bool, true, false, ◌||◌, ◌==◌, pos, List, [], ◌∷◌, ◌++◌, ◌-◌, length, take, refl, sym, ap, ◌∙◌, arith}
 use Rattle.std.specs.List.{list_any}
-use Rattle.std.specs.Option.{option_to_list}
-use Rattle.std.proofs.lemmas.List.{append_assoc, append-nil}
+use Rattle.std.proofs.lemmas.List.{append_assoc}
 use Rattle.std.proofs.lemmas.Bool.{false≢true}
 use Rattle.vx_base.specs.declared.arithmetic.Code.{Code}
 use Rattle.vx_flow.specs.declared.graph.Operand.{Operand}
@@ -124,6 +123,20 @@ last_cut left (Never ∷ fs) last m h = ap (λ x. Never ∷ x) (last_cut left fs
 last_cut zero (Equals v code a b ∷ fs) last m h = absurd (false≢true (sym h))
 last_cut (suc left) (Equals v code a b ∷ fs) last m h = ap (λ x. Equals v code a b ∷ x) (last_cut left fs last m h)
 
-pub last_gone : (left : ℕ) (old new : List Fact) (last : Option Fact) → old ≡ new ++ option_to_list last → has_more left old ≡ true → has_more left new ≡ false → new ≡ newest left old
-last_gone left old new None e m h = absurd (false≢true (sym h ∙ ap (has_more left) (sym (append-nil new)) ∙ ap (has_more left) (sym e) ∙ m))
-last_gone left old new (Some last) e m h = last_cut left new last (ap (has_more left) (sym e) ∙ m) h ∙ ap (newest left) (sym e)
+front_last : (f : Fact) (fs : List Fact) → (last : Fact) × (f ∷ fs ≡ take (length fs) (f ∷ fs) ++ last ∷ [])
+front_last f [] = (f, refl)
+front_last f (g ∷ gs) =
+    let r = front_last g gs in
+    (r.0, ap (λ x. f ∷ x) r.1)
+
+pub front_kept : (left : ℕ) (fs : List Fact) → has_more left fs ≡ true → has_more left (take (length fs - 1) fs) ≡ false → take (length fs - 1) fs ≡ newest left fs
+front_kept left [] m h = absurd (false≢true m)
+front_kept left (f ∷ fs) m h =
+    let n : length (f ∷ fs) - 1 ≡ length fs = omega arith in
+    let front : List Fact = take (length fs) (f ∷ fs) in
+    let r = front_last f fs in
+    let cut : front ≡ newest left (front ++ r.0 ∷ []) = last_cut left front r.0 (ap (has_more left) (sym r.1) ∙ m) (ap (λ (k : ℕ). has_more left (take k (f ∷ fs))) (sym n) ∙ h) in
+    ap (λ (k : ℕ). take k (f ∷ fs)) n ∙ cut ∙ ap (newest left) (sym r.1)
+
+pub front_is_kept : (left : ℕ) (fs new : List Fact) → new ≡ take (length fs - 1) fs → has_more left fs ≡ true → has_more left (take (length fs - 1) fs) ≡ false → new ≡ newest left fs
+front_is_kept left fs new e m h = e ∙ front_kept left fs m h

@@ -1,5 +1,6 @@
 mod Formed
 mod Kept
+mod Covering
 mod IntervalRows
 mod ResidueRows
 mod Fronts

@@ -4,4 +4,5 @@ pub mod Accesses
 pub mod Sums
 pub mod Forming
 pub mod Keeping
+pub mod Marking
 pub mod Claims

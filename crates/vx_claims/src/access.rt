@@ -2,7 +2,7 @@
 // each array that may share a word with it, a write of a value what speaks of it; nothing is known at the start of a block, and so
 // nothing behind a call.
 
-ghost use Rattle.std.specs.Prelude.{◌≡◌, ◌++◌, IfOk};
+ghost use Rattle.std.specs.Prelude.{◌≡◌, ◌++◌, true, drop, IfOk, IfSome};
 ghost use Rattle.vx_claims.specs.Accesses.{accessed, is_told, loaded_as, mentions, moved_from, moved_or, place_in, place_known, same_access, tell, touches, unless, unmentioned, untouched, value_if, with_words, word_in};
 
 use crate::fact::Fact;
@@ -92,12 +92,53 @@ fn is_told(known: &[Access], access: Access) -> bool
     }
 }
 
+/// How many there are up to the first that says the same.
+fn past_told(known: &[Access], access: Access) -> Option<usize>
+    ensures { IfSome result (λ _. is_told known.now access ≡ true) }
+{
+    let mut past: usize = 0;
+    for told in known {
+        past = past.saturating_add(1);
+        if same_access(access, *told) {
+            return Some(past);
+        }
+    }
+    None
+}
+
+/// What is known from a place on.
+fn from_place(known: &[Access], place: usize) -> &[Access]
+    ensures { result.now ≡ drop place known.now }
+{
+    if place <= known.len() {
+        &known[place..]
+    } else {
+        &[]
+    }
+}
+
+/// The same as `is_told`, which looks first from a place on: claims stand mostly in the order of what is known. The place is then the
+/// one behind what was found.
+#[tactic(auto, using(crate::proofs::Fronts::told_behind))]
+fn is_told_near(known: &[Access], place: &mut usize, access: Access) -> bool
+    ensures { result ≡ is_told known.now access }
+{
+    match past_told(from_place(known, *place), access) {
+        Some(past) => {
+            *place = place.saturating_add(past);
+            true
+        }
+        None => is_told(known, access),
+    }
+}
+
 /// Whether all claims are known.
 pub fn tell(known: &[Access], claims: &[Access]) -> bool
     ensures { result ≡ tell known.now claims.now }
 {
+    let mut place: usize = 0;
     for claim in claims {
-        if !is_told(known, *claim) {
+        if !is_told_near(known, &mut place, *claim) {
             return false;
         }
     }

@@ -6,6 +6,7 @@ ghost use Rattle.vx_claims.specs.Forming.{accessed_from, after_from};
 use crate::access::{Access, accessed, copied_accesses};
 use crate::claim::Claim;
 use crate::fact::Fact;
+use crate::fact_list::FactList;
 use crate::forms::form;
 use crate::update::learn;
 use std::alloc::Global;
@@ -24,25 +25,15 @@ pub fn known_behind(
     ensures facts { IfOk result (λ behind. behind.facts ≡ after_from arrays.now claims.now accesses.now ops.now) }
     ensures accesses { IfOk result (λ behind. behind.accesses ≡ accessed_from arrays.now claims.now accesses.now ops.now) }
 {
-    let mut facts = with_room(alloc, claims, ops.len())?;
+    let mut facts = FactList::new(alloc, claims, ops.len())?;
     let mut known = copied_accesses(alloc, accesses)?;
     for op in ops {
-        let form = form(facts.as_slice(), known.as_slice(), op);
+        let form = form(&facts, known.as_slice(), op);
         learn(alloc, &mut facts, known.as_slice(), op, &form)?;
         known = accessed(alloc, arrays, known.as_slice(), &form)?;
     }
     Ok(Claim {
-        facts: Listed::from_vec(facts)?,
+        facts: Listed::from_vec(facts.into_vec())?,
         accesses: known,
     })
-}
-
-/// A list of these facts, with room for what so many operations say.
-pub fn with_room(alloc: Global, facts: &[Fact], ops: usize) -> Result<Vec<Fact>, NoMemory>
-    ensures { IfOk result (λ copy. copy.items ≡ facts.now) }
-{
-    let room = ops.saturating_mul(2).saturating_add(facts.len());
-    let mut copy = Vec::with_capacity(alloc, room)?;
-    copy.extend_from_slice(facts)?;
-    Ok(copy)
 }

@@ -1,17 +1,19 @@
 // What an operation leaves of a list of facts, and what the answer of a test adds to it.
 
 ghost use Rattle.std.specs.Prelude.{◌≡◌, ◌==◌, ◌||◌, ◌++◌, [], ◌∷◌, IfOk};
+ghost use Rattle.std.specs.List.{list_any};
 ghost use Rattle.vx_flow.specs.Sound.{is_value};
 ghost use Rattle.vx_claims.specs.declared.fact.Fact.TheVariants.{Between};
 ghost use Rattle.vx_claims.specs.Forming.{facts_if, is_test, newest, said_unless, same_form};
 ghost use Rattle.vx_claims.specs.Facts.{agrees_in, came_out, compared, computed_residue, computed_within, equals_if, is_full, learned, learned_if, lies_in, names, on_side, operand_between, stands_in, without};
 
 use crate::fact::Fact;
+use crate::fact_list::FactList;
 use crate::intervals::{
     Interval, is_single, left_within, opposite, result_residue, result_within, right_within,
     times_if,
 };
-use crate::known::{range_of, same_code, same_operand, sight_of};
+use crate::known::{range_in, range_of, same_code, same_operand, sight_in};
 use crate::residues::Residue;
 use std::alloc::Global;
 use vx_base::arithmetic::{Code, Compare};
@@ -47,6 +49,18 @@ fn append_without(list: &mut Listed<Fact>, facts: &[Fact], value: Value) -> Resu
         }
     }
     Ok(())
+}
+
+/// Whether a fact of a list names a value.
+pub(crate) fn any_names(facts: &[Fact], value: Value) -> bool
+    ensures { result ≡ list_any (names value) facts.now }
+{
+    for fact in facts {
+        if names(value, *fact) {
+            return true;
+        }
+    }
+    false
 }
 
 /// The facts that do not name a value.
@@ -106,7 +120,7 @@ pub fn append_stands(
 /// Puts where the result of a computation lies and what its low bits are at the end of a list.
 pub fn append_result(
     list: &mut Listed<Fact>,
-    facts: &[Fact],
+    facts: &FactList,
     code: Code,
     to: Value,
     left: Operand,
@@ -114,8 +128,8 @@ pub fn append_result(
 ) -> Result<(), NoMemory>
     ensures { IfOk result (λ _. list.new ≡ list.old ++ stands_in to (computed_within facts.now code left right) (computed_residue facts.now code left right) []) }
 {
-    let first = sight_of(facts, left);
-    let second = sight_of(facts, right);
+    let first = sight_in(facts, left);
+    let second = sight_in(facts, right);
     append_stands(
         list,
         to,
@@ -200,7 +214,7 @@ fn append_test(
 /// Puts at the end of a list what an operation says in the words it had, where its form has others.
 pub fn append_said_unless(
     list: &mut Listed<Fact>,
-    facts: &[Fact],
+    facts: &FactList,
     test: bool,
     op: &Op,
 ) -> Result<(), NoMemory>
@@ -220,7 +234,7 @@ pub fn append_said_unless(
             append_test(list, code, to, left, right)
         }
         Op::Place { to, index, .. } => {
-            let within = times_if(true, range_of(facts, index), 4);
+            let within = times_if(true, range_in(facts, index), 4);
             append_lies(list, to, within)
         }
         _ => Ok(()),

@@ -6,7 +6,8 @@ ghost use Rattle.vx_claims.specs.Forming.{computed_as, form, formed, is_readable
 
 use crate::access::{Access, with_words};
 use crate::fact::Fact;
-use crate::known::found;
+use crate::fact_list::FactList;
+use crate::known::found_in;
 use crate::sums::based;
 use vx_base::arithmetic::Code;
 use vx_flow::graph::{Op, Operand, Value};
@@ -44,12 +45,24 @@ fn source_of(facts: &[Fact], value: Value) -> Operand
     Operand::Held(value)
 }
 
+/// The same by the facts of a list.
+#[tactic(auto, using(crate::proofs::Covering::unlinked_source))]
+fn source_in(facts: &FactList, value: Value) -> Operand
+    ensures { result ≡ source_of facts.now value }
+{
+    if facts.is_linked(value) {
+        source_of(facts.as_slice(), value)
+    } else {
+        Operand::Held(value)
+    }
+}
+
 /// An operand that holds the same.
-pub fn read(facts: &[Fact], operand: Operand) -> Operand
+pub fn read(facts: &FactList, operand: Operand) -> Operand
     ensures { result ≡ read facts.now operand }
 {
     match operand {
-        Operand::Held(value) => source_of(facts, value),
+        Operand::Held(value) => source_in(facts, value),
         Operand::Number(number) => Operand::Number(number),
         Operand::Stack => Operand::Stack,
     }
@@ -95,7 +108,7 @@ fn read_if(
     }
 }
 
-fn computed_as(facts: &[Fact], code: Code, to: Value, left: Operand, right: Operand) -> Op
+fn computed_as(facts: &FactList, code: Code, to: Value, left: Operand, right: Operand) -> Op
     ensures { result ≡ computed_as facts.now code to left right }
 {
     read_if(
@@ -104,12 +117,12 @@ fn computed_as(facts: &[Fact], code: Code, to: Value, left: Operand, right: Oper
         to,
         left,
         right,
-        found(facts, code, left, right),
+        found_in(facts, code, left, right),
     )
 }
 
 /// The operation with its operands read where they were moved from, or a move of its result from where it stands already.
-fn formed(facts: &[Fact], op: &Op) -> Op
+fn formed(facts: &FactList, op: &Op) -> Op
     ensures { result ≡ formed facts.now op.now }
 {
     match *op {
@@ -131,7 +144,7 @@ fn formed(facts: &[Fact], op: &Op) -> Op
 }
 
 /// The same, and a move where it is a load of a word that an operand holds.
-pub fn form(facts: &[Fact], known: &[Access], op: &Op) -> Op
+pub fn form(facts: &FactList, known: &[Access], op: &Op) -> Op
     ensures { result ≡ form facts.now known.now op.now }
 {
     with_words(known, formed(facts, op))

@@ -7,6 +7,7 @@ ghost use Rattle.vx_claims.specs.Residues.{finer, low_bits};
 ghost use Rattle.vx_claims.specs.Claims.{give, gives, is_inside, is_never, says_never};
 
 use crate::fact::Fact;
+use crate::fact_list::FactList;
 use crate::intervals::{Interval, compare_decided, full, is_single, meet};
 use crate::residues::{Residue, exactly, finer, is_implied, low_bits, unknown};
 use vx_arithmetic::sub32;
@@ -169,6 +170,22 @@ pub fn sight_of(facts: &[Fact], operand: Operand) -> Sight
     }
 }
 
+/// What all facts of a list say of an operand.
+#[tactic(auto, using(crate::proofs::Covering::unlinked_range, crate::proofs::Covering::unlinked_residue))]
+pub(crate) fn sight_in(list: &FactList, operand: Operand) -> Sight
+    ensures within { result.within ≡ range_of list.now operand }
+    ensures residue { result.residue ≡ residue_of list.now operand }
+{
+    if list.is_unlinked(operand) {
+        Sight {
+            within: full(),
+            residue: unknown(),
+        }
+    } else {
+        sight_of(list.as_slice(), operand)
+    }
+}
+
 /// What the interval and the low bits of a number say together.
 pub fn together(sight: Sight) -> Sight
     ensures within { result.within ≡ rounded sight.residue sight.within }
@@ -186,6 +203,13 @@ pub fn range_of(facts: &[Fact], operand: Operand) -> Interval
     ensures { result ≡ range_of facts.now operand }
 {
     sight_of(facts, operand).within
+}
+
+/// Where an operand lies by all facts of a list.
+pub(crate) fn range_in(list: &FactList, operand: Operand) -> Interval
+    ensures { result ≡ range_of list.now operand }
+{
+    sight_in(list, operand).within
 }
 
 fn same_compare(first: Compare, second: Compare) -> bool
@@ -358,6 +382,17 @@ pub fn found(facts: &[Fact], code: Code, left: Operand, right: Operand) -> Optio
         }
     }
     None
+}
+
+/// A value that holds what an operation gives, by the facts of a list.
+#[tactic(auto, using(crate::proofs::Covering::not_found_left, crate::proofs::Covering::not_found_right))]
+pub(crate) fn found_in(list: &FactList, code: Code, left: Operand, right: Operand) -> Option<Value>
+    ensures { result ≡ found list.now code left right }
+{
+    if list.is_unread(left) || list.is_unread(right) {
+        return None;
+    }
+    found(list.as_slice(), code, left, right)
 }
 
 /// How a compare to a branch value comes out by all facts, where they decide it.

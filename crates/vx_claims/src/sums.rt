@@ -6,6 +6,7 @@ ghost use Rattle.std.specs.Prelude.{◌≡◌};
 ghost use Rattle.vx_claims.specs.Sums.{as_is, based, based_difference, based_shift, based_sum, behind, below, held_as_sum, held_difference, held_sum, left_sum, number_added, plus, plus_or, right_sum, shifted, sum_at, sum_if};
 
 use crate::fact::Fact;
+use crate::fact_list::FactList;
 use crate::known::found;
 use vx_arithmetic::{add32, sub32, value};
 use vx_base::arithmetic::Code;
@@ -65,6 +66,18 @@ pub fn held_as_sum(facts: &[Fact], value: Value) -> Option<Sum>
         }
     }
     None
+}
+
+/// The same by the facts of a list.
+#[tactic(auto, using(crate::proofs::Covering::unlinked_sum))]
+pub(crate) fn sum_in(facts: &FactList, value: Value) -> Option<Sum>
+    ensures { result ≡ held_as_sum facts.now value }
+{
+    if facts.is_linked(value) {
+        held_as_sum(facts.as_slice(), value)
+    } else {
+        None
+    }
 }
 
 /// The facts behind the one by which a value is such a sum. What they say was known before the sum was made.
@@ -143,19 +156,25 @@ fn number_added(sum: Option<Sum>, by: i32, otherwise: Computation) -> Computatio
     }
 }
 
-/// A computation whose left operand is such a sum.
+/// A computation whose left operand is a value that is such a sum.
 fn left_sum(
-    facts: &[Fact],
+    facts: &FactList,
+    left: Value,
     code: Code,
     sum: Option<Sum>,
     right: Operand,
     otherwise: Computation,
 ) -> Computation
-    ensures { result ≡ left_sum facts.now code sum right otherwise }
+    ensures { result ≡ left_sum (behind facts.now left) code sum right otherwise }
 {
     match sum {
         Some(sum) => plus_or(
-            found(facts, code, Operand::Held(sum.base), right),
+            found(
+                behind(facts.as_slice(), left),
+                code,
+                Operand::Held(sum.base),
+                right,
+            ),
             sum.by,
             otherwise,
         ),
@@ -163,19 +182,25 @@ fn left_sum(
     }
 }
 
-/// A computation whose right operand is such a sum.
+/// A computation whose right operand is a value that is such a sum.
 fn right_sum(
-    facts: &[Fact],
+    facts: &FactList,
+    right: Value,
     code: Code,
     left: Operand,
     sum: Option<Sum>,
     otherwise: Computation,
 ) -> Computation
-    ensures { result ≡ right_sum facts.now code left sum otherwise }
+    ensures { result ≡ right_sum (behind facts.now right) code left sum otherwise }
 {
     match sum {
         Some(sum) => plus_or(
-            found(facts, code, left, Operand::Held(sum.base)),
+            found(
+                behind(facts.as_slice(), right),
+                code,
+                left,
+                Operand::Held(sum.base),
+            ),
             sum.by,
             otherwise,
         ),
@@ -184,54 +209,56 @@ fn right_sum(
 }
 
 /// The sum of two values.
-fn held_sum(facts: &[Fact], left: Value, right: Value) -> Computation
+fn held_sum(facts: &FactList, left: Value, right: Value) -> Computation
     ensures { result ≡ held_sum facts.now left right }
 {
     let first = Operand::Held(left);
     let second = Operand::Held(right);
     let plain = as_is(Code::Add, first, second);
-    let by_right = right_sum(
-        behind(facts, right),
-        Code::Add,
-        first,
-        held_as_sum(facts, right),
-        plain,
-    );
+    let by_right = right_sum(facts, right, Code::Add, first, sum_in(facts, right), plain);
     left_sum(
-        behind(facts, left),
+        facts,
+        left,
         Code::Add,
-        held_as_sum(facts, left),
+        sum_in(facts, left),
         second,
         by_right,
     )
 }
 
 /// The difference of two values.
-fn held_difference(facts: &[Fact], left: Value, right: Value) -> Computation
+fn held_difference(facts: &FactList, left: Value, right: Value) -> Computation
     ensures { result ≡ held_difference facts.now left right }
 {
     let first = Operand::Held(left);
     let second = Operand::Held(right);
     let plain = as_is(Code::Sub, first, second);
-    let sum = below(held_as_sum(facts, right));
-    let by_right = right_sum(behind(facts, right), Code::Sub, first, sum, plain);
+    let sum = below(sum_in(facts, right));
+    let by_right = right_sum(facts, right, Code::Sub, first, sum, plain);
     left_sum(
-        behind(facts, left),
+        facts,
+        left,
         Code::Sub,
-        held_as_sum(facts, left),
+        sum_in(facts, left),
         second,
         by_right,
     )
 }
 
-/// Such a sum shifted by a number of places.
-fn shifted(facts: &[Fact], sum: Option<Sum>, places: i32, otherwise: Computation) -> Computation
-    ensures { result ≡ shifted facts.now sum places otherwise }
+/// Such a sum, which a value is, shifted by a number of places.
+fn shifted(
+    facts: &FactList,
+    of: Value,
+    sum: Option<Sum>,
+    places: i32,
+    otherwise: Computation,
+) -> Computation
+    ensures { result ≡ shifted (behind facts.now of) sum places otherwise }
 {
     match sum {
         Some(sum) => plus_or(
             found(
-                facts,
+                behind(facts.as_slice(), of),
                 Code::Shl,
                 Operand::Held(sum.base),
                 Operand::Number(places),
@@ -243,44 +270,39 @@ fn shifted(facts: &[Fact], sum: Option<Sum>, places: i32, otherwise: Computation
     }
 }
 
-fn based_sum(facts: &[Fact], left: Operand, right: Operand) -> Computation
+fn based_sum(facts: &FactList, left: Operand, right: Operand) -> Computation
     ensures { result ≡ based_sum facts.now left right }
 {
     let plain = as_is(Code::Add, left, right);
     match (left, right) {
         (Operand::Held(value), Operand::Number(by)) => {
-            number_added(held_as_sum(facts, value), by, plain)
+            number_added(sum_in(facts, value), by, plain)
         }
         (Operand::Held(one), Operand::Held(other)) => held_sum(facts, one, other),
         _ => plain,
     }
 }
 
-fn based_difference(facts: &[Fact], left: Operand, right: Operand) -> Computation
+fn based_difference(facts: &FactList, left: Operand, right: Operand) -> Computation
     ensures { result ≡ based_difference facts.now left right }
 {
     let plain = as_is(Code::Sub, left, right);
     match (left, right) {
         (Operand::Held(value), Operand::Number(by)) => {
-            number_added(held_as_sum(facts, value), sub32(0, by), plain)
+            number_added(sum_in(facts, value), sub32(0, by), plain)
         }
         (Operand::Held(one), Operand::Held(other)) => held_difference(facts, one, other),
         _ => plain,
     }
 }
 
-fn based_shift(facts: &[Fact], left: Operand, right: Operand) -> Computation
+fn based_shift(facts: &FactList, left: Operand, right: Operand) -> Computation
     ensures { result ≡ based_shift facts.now left right }
 {
     let plain = as_is(Code::Shl, left, right);
     match (left, right) {
         (Operand::Held(value), Operand::Number(places)) => {
-            shifted(
-                behind(facts, value),
-                held_as_sum(facts, value),
-                places,
-                plain,
-            )
+            shifted(facts, value, sum_in(facts, value), places, plain)
         }
         _ => plain,
     }
@@ -288,7 +310,7 @@ fn based_shift(facts: &[Fact], left: Operand, right: Operand) -> Computation
 
 /// A computation with the same result: a sum of what is at hand, where its operands are such sums that were made later than that. So
 /// the result is not waited for longer than they are.
-pub fn based(facts: &[Fact], code: Code, left: Operand, right: Operand) -> Computation
+pub fn based(facts: &FactList, code: Code, left: Operand, right: Operand) -> Computation
     ensures { result ≡ based facts.now code left right }
 {
     match code {

@@ -1,21 +1,20 @@
 // What is known behind the operations of a block is kept in one list, which each operation changes in place: what speaks of the value
 // that it writes is forgotten, what it says is put before the rest, and of the facts on what operations give the oldest one goes.
 
-ghost use Rattle.std.specs.Prelude.{◌≡◌, ◌++◌, true, IfOk};
-ghost use Rattle.std.specs.List.{list_any};
-ghost use Rattle.std.specs.Option.{option_to_list};
+ghost use Rattle.std.specs.Prelude.{◌≡◌, ◌++◌, ◌-◌, true, length, take, IfOk};
 ghost use Rattle.vx_flow.specs.declared.graph.Op.TheVariants.{Compute};
-ghost use Rattle.vx_claims.specs.Facts.{names, without_written};
+ghost use Rattle.vx_claims.specs.Facts.{without_written};
 ghost use Rattle.vx_claims.specs.Forming.{after_known, most_equals, newest};
 ghost use Rattle.vx_claims.specs.Keeping.{all_said, has_more, said_by};
 
 use crate::access::{Access, append_place};
 use crate::effects::{
-    append_lies, append_newest, append_result, append_said_unless, names, same_form, without,
+    append_lies, append_newest, append_result, append_said_unless, same_form, without,
 };
 use crate::fact::Fact;
+use crate::fact_list::FactList;
 use crate::intervals::{bit, times_if};
-use crate::known::range_of;
+use crate::known::range_in;
 use std::alloc::Global;
 use vx_base::arithmetic::Code;
 use vx_base::listed::Listed;
@@ -30,23 +29,23 @@ const MOST_EQUALS: usize = 64;
 #[tactic(auto, using(crate::proofs::Kept::known_parts))]
 pub fn learn(
     alloc: Global,
-    facts: &mut Vec<Fact>,
+    facts: &mut FactList,
     known: &[Access],
     op: &Op,
     form: &Op,
 ) -> Result<(), NoMemory>
-    ensures { IfOk result (λ _. facts.new.items ≡ after_known facts.old.items known.now op.now form.now) }
+    ensures { IfOk result (λ _. facts.new ≡ after_known facts.old known.now op.now form.now) }
 {
-    let said = all_said(alloc, facts.as_slice(), known, op, form)?;
+    let said = all_said(alloc, facts, known, op, form)?;
     forget(alloc, facts, written_by(form))?;
-    put_before(facts, said.as_slice())?;
+    put_said(facts, said.as_slice())?;
     keep_newest(alloc, facts)
 }
 
 /// All that an operation says that has a form.
 fn all_said(
     alloc: Global,
-    facts: &[Fact],
+    facts: &FactList,
     known: &[Access],
     op: &Op,
     form: &Op,
@@ -61,7 +60,7 @@ fn all_said(
 }
 
 /// Puts what an operation says of the value that it writes at the end of a list.
-fn append_said_by(list: &mut Listed<Fact>, facts: &[Fact], op: &Op) -> Result<(), NoMemory>
+fn append_said_by(list: &mut Listed<Fact>, facts: &FactList, op: &Op) -> Result<(), NoMemory>
     ensures { IfOk result (λ _. list.new ≡ list.old ++ said_by facts.now op.now) }
 {
     match *op {
@@ -72,7 +71,7 @@ fn append_said_by(list: &mut Listed<Fact>, facts: &[Fact], op: &Op) -> Result<()
             right,
         } => append_computed(list, facts, code, to, left, right),
         Op::Place { to, index, .. } => {
-            append_lies(list, to, times_if(true, range_of(facts, index), 4))
+            append_lies(list, to, times_if(true, range_in(facts, index), 4))
         }
         Op::More { to } => append_lies(list, to, bit()),
         _ => Ok(()),
@@ -82,7 +81,7 @@ fn append_said_by(list: &mut Listed<Fact>, facts: &[Fact], op: &Op) -> Result<()
 /// Puts what a computation gives at the end of a list.
 fn append_computed(
     list: &mut Listed<Fact>,
-    facts: &[Fact],
+    facts: &FactList,
     code: Code,
     to: Value,
     left: Operand,
@@ -103,51 +102,47 @@ fn append_computed(
 }
 
 /// Forgets what speaks of the value that is written, if one is.
-#[tactic(auto, using(crate::proofs::Kept::none_named))]
-fn forget(alloc: Global, facts: &mut Vec<Fact>, written: Option<Value>) -> Result<(), NoMemory>
-    ensures { IfOk result (λ _. facts.new.items ≡ without_written written facts.old.items) }
+#[tactic(auto, using(crate::proofs::Kept::none_named, crate::proofs::Covering::part_without, crate::proofs::Covering::same_part))]
+fn forget(alloc: Global, facts: &mut FactList, written: Option<Value>) -> Result<(), NoMemory>
+    ensures { IfOk result (λ _. facts.new ≡ without_written written facts.old) }
 {
     let Some(value) = written else {
         return Ok(());
     };
-    if !any_names(facts.as_slice(), value) {
+    if !facts.has_name(value) {
         return Ok(());
     }
     let left = without(alloc, facts.as_slice(), value)?;
-    *facts = left.into_vec();
+    facts.leave(left.into_vec());
     Ok(())
 }
 
-/// Whether a fact of a list names a value.
-fn any_names(facts: &[Fact], value: Value) -> bool
-    ensures { result ≡ list_any (names value) facts.now }
+/// Puts what is said before the facts.
+fn put_said(facts: &mut FactList, said: &[Fact]) -> Result<(), NoMemory>
+    ensures { IfOk result (λ _. facts.new ≡ said.now ++ facts.old) }
 {
-    for fact in facts {
-        if names(value, *fact) {
-            return true;
-        }
-    }
-    false
+    put_before(facts, said)?;
+    facts.renew();
+    Ok(())
 }
 
 /// Puts facts before others.
-fn put_before(facts: &mut Vec<Fact>, said: &[Fact]) -> Result<(), NoMemory>
-    ensures { IfOk result (λ _. facts.new.items ≡ said.now ++ facts.old.items) }
+fn put_before(facts: &mut FactList, said: &[Fact]) -> Result<(), NoMemory>
+    ensures { IfOk result (λ _. facts.new ≡ said.now ++ facts.old) }
 {
     match said {
         [] => Ok(()),
         [first, rest @ ..] => {
             put_before(facts, rest)?;
-            facts.insert(0, *first)?;
-            Ok(())
+            facts.put(*first)
         }
     }
 }
 
 /// Keeps of the facts on what operations give so many as are kept at most.
 #[tactic(auto, using(crate::proofs::Kept::all_kept))]
-fn keep_newest(alloc: Global, facts: &mut Vec<Fact>) -> Result<(), NoMemory>
-    ensures { IfOk result (λ _. facts.new.items ≡ newest most_equals facts.old.items) }
+fn keep_newest(alloc: Global, facts: &mut FactList) -> Result<(), NoMemory>
+    ensures { IfOk result (λ _. facts.new ≡ newest most_equals facts.old) }
 {
     if is_over(facts.as_slice()) {
         cut(alloc, facts)
@@ -164,39 +159,34 @@ fn is_over(facts: &[Fact]) -> bool
     facts.len() > MOST_EQUALS && has_more(facts, MOST_EQUALS)
 }
 
-/// The same for a list that has more: most often it is the last one that goes.
-#[tactic(auto, using(crate::proofs::Kept::last_gone))]
-fn cut(alloc: Global, facts: &mut Vec<Fact>) -> Result<(), NoMemory>
-    requires { has_more most_equals facts.old.items ≡ true }
-    ensures { IfOk result (λ _. facts.new.items ≡ newest most_equals facts.old.items) }
+/// The facts but the last.
+fn front_of(facts: &[Fact]) -> &[Fact]
+    ensures { result.now ≡ take (length facts.now - 1) facts.now }
 {
-    let last = facts.pop();
-    if has_more(facts.as_slice(), MOST_EQUALS) {
-        put_back(facts, last)?;
+    &facts[..facts.len().saturating_sub(1)]
+}
+
+/// The same for a list that has more: most often it is the last one that goes.
+#[tactic(auto, using(crate::proofs::Kept::front_is_kept))]
+fn cut(alloc: Global, facts: &mut FactList) -> Result<(), NoMemory>
+    requires { has_more most_equals facts.old ≡ true }
+    ensures { IfOk result (λ _. facts.new ≡ newest most_equals facts.old) }
+{
+    if has_more(front_of(facts.as_slice()), MOST_EQUALS) {
         rebuild(alloc, facts)
     } else {
+        facts.drop_last();
         Ok(())
     }
 }
 
-fn put_back(facts: &mut Vec<Fact>, last: Option<Fact>) -> Result<(), NoMemory>
-    ensures { IfOk result (λ _. facts.new.items ≡ facts.old.items ++ option_to_list last) }
-{
-    match last {
-        Some(fact) => {
-            facts.push(fact)?;
-            Ok(())
-        }
-        None => Ok(()),
-    }
-}
-
-fn rebuild(alloc: Global, facts: &mut Vec<Fact>) -> Result<(), NoMemory>
-    ensures { IfOk result (λ _. facts.new.items ≡ newest most_equals facts.old.items) }
+#[tactic(auto, using(crate::proofs::Covering::part_newest, crate::proofs::Covering::same_part))]
+fn rebuild(alloc: Global, facts: &mut FactList) -> Result<(), NoMemory>
+    ensures { IfOk result (λ _. facts.new ≡ newest most_equals facts.old) }
 {
     let mut kept = Listed::new(alloc);
     append_newest(&mut kept, facts.as_slice(), MOST_EQUALS)?;
-    *facts = kept.into_vec();
+    facts.leave(kept.into_vec());
     Ok(())
 }
 

@@ -1,5 +1,10 @@
 mod Masks
+<<<<<<< ours
 pub mod Products
+=======
+mod Products
+mod Factors
+>>>>>>> theirs
 mod NearPlaces
 pub mod Congruences
 pub mod Residues

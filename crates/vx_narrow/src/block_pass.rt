@@ -16,9 +16,9 @@ use std::alloc::Global;
 use vx_base::listed::Listed;
 use vx_base::outcome::NoMemory;
 use vx_claims::access::{Access, accessed, copied_accesses};
-use vx_claims::behind::with_room;
 use vx_claims::claim::{Claim, accesses_in, facts_in};
 use vx_claims::fact::Fact;
+use vx_claims::fact_list::FactList;
 use vx_claims::forms::form;
 use vx_claims::intervals::Interval;
 use vx_claims::known::decided;
@@ -46,22 +46,28 @@ pub fn pass_ops(
     ensures accesses { IfOk result (λ passed. passed.accesses ≡ accessed_from arrays.now claims.now accesses.now ops.now) }
     ensures ops { IfOk result (λ passed. passed.ops ≡ improved_from arrays.now ops.now claims.now accesses.now ops.now) }
 {
-    let mut facts = with_room(alloc, claims, ops.len())?;
+    let mut facts = FactList::new(alloc, claims, ops.len())?;
     let mut known = copied_accesses(alloc, accesses)?;
     let mut made = Listed::new(alloc);
     pass_each(alloc, arrays, ops, &mut facts, &mut known, &mut made, ops)?;
     Ok(Passed {
-        facts: Listed::from_vec(facts)?,
+        facts: Listed::from_vec(facts.into_vec())?,
         accesses: known,
         ops: made,
     })
 }
 
 /// The form of an operation of a block in one operation where it is the last of three or near a place at hand.
-fn improved(arrays: &[Array], block: &[Op], facts: &[Fact], known: &[Access], form: Op) -> Op
+fn improved(arrays: &[Array], block: &[Op], facts: &FactList, known: &[Access], form: Op) -> Op
     ensures { result ≡ placed arrays.now block.now facts.now known.now (shortened facts.now form) }
 {
-    placed(arrays, block, facts, known, shortened(facts, form))
+    placed(
+        arrays,
+        block,
+        facts.as_slice(),
+        known,
+        shortened(facts, form),
+    )
 }
 
 /// Puts what is known behind operations in place of what is known before them, and puts their forms behind what is made.
@@ -69,18 +75,18 @@ fn pass_each(
     alloc: Global,
     arrays: &[Array],
     all: &[Op],
-    facts: &mut Vec<Fact>,
+    facts: &mut FactList,
     known: &mut Listed<Access>,
     made: &mut Listed<Op>,
     ops: &[Op],
 ) -> Result<(), NoMemory>
-    ensures facts { IfOk result (λ _. facts.new.items ≡ after_from arrays.now facts.old.items known.old ops.now) }
-    ensures known { IfOk result (λ _. known.new ≡ accessed_from arrays.now facts.old.items known.old ops.now) }
-    ensures made { IfOk result (λ _. made.new ≡ made.old ++ improved_from arrays.now all.now facts.old.items known.old ops.now) }
+    ensures facts { IfOk result (λ _. facts.new ≡ after_from arrays.now facts.old known.old ops.now) }
+    ensures known { IfOk result (λ _. known.new ≡ accessed_from arrays.now facts.old known.old ops.now) }
+    ensures made { IfOk result (λ _. made.new ≡ made.old ++ improved_from arrays.now all.now facts.old known.old ops.now) }
 {
     for op in ops {
-        let form = form(facts.as_slice(), known.as_slice(), op);
-        made.push(improved(arrays, all, facts.as_slice(), known.as_slice(), form))?;
+        let form = form(facts, known.as_slice(), op);
+        made.push(improved(arrays, all, facts, known.as_slice(), form))?;
         learn(alloc, facts, known.as_slice(), op, &form)?;
         *known = accessed(alloc, arrays, known.as_slice(), &form)?;
     }

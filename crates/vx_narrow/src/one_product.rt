@@ -8,6 +8,7 @@ use crate::one_mask::far_mask;
 use vx_arithmetic::value;
 use vx_base::arithmetic::Code;
 use vx_claims::fact::Fact;
+use vx_claims::fact_list::FactList;
 use vx_claims::intervals::is_half;
 use vx_claims::known::{has_equals, range_of};
 use vx_flow::graph::{Op, Operand, Value};
@@ -138,6 +139,18 @@ fn factors_of(facts: &[Fact], value: Value) -> Option<Factors>
     None
 }
 
+/// The same by the facts of a list.
+#[tactic(auto, using(crate::proofs::Factors::unlinked_factors))]
+fn factors_in(facts: &FactList, value: Value) -> Option<Factors>
+    ensures { result ≡ factors_of facts.now value }
+{
+    if facts.is_linked(value) {
+        factors_of(facts.as_slice(), value)
+    } else {
+        None
+    }
+}
+
 fn product_if(
     test: bool,
     facts: &[Fact],
@@ -171,7 +184,7 @@ fn sum_as(facts: &[Fact], factors: Option<Factors>, to: Value, high: Value, othe
     }
 }
 
-fn short_sum(facts: &[Fact], to: Value, left: Operand, right: Operand) -> Op
+fn short_sum(facts: &FactList, to: Value, left: Operand, right: Operand) -> Op
     ensures { result ≡ short_sum facts.now to left right }
 {
     let sum = Op::Compute {
@@ -182,14 +195,14 @@ fn short_sum(facts: &[Fact], to: Value, left: Operand, right: Operand) -> Op
     };
     match (left, right) {
         (Operand::Held(low), Operand::Held(high)) => {
-            sum_as(facts, factors_of(facts, low), to, high, sum)
+            sum_as(facts.as_slice(), factors_in(facts, low), to, high, sum)
         }
         _ => sum,
     }
 }
 
 /// The operation, or the whole product in one operation where it is the sum of two half products, or the mask of what stands behind.
-pub fn shortened(facts: &[Fact], op: Op) -> Op
+pub fn shortened(facts: &FactList, op: Op) -> Op
     ensures { result ≡ shortened facts.now op }
 {
     match op {
@@ -204,7 +217,7 @@ pub fn shortened(facts: &[Fact], op: Op) -> Op
             to,
             left,
             right,
-        } => far_mask(facts, to, left, right),
+        } => far_mask(facts.as_slice(), to, left, right),
         other => other,
     }
 }

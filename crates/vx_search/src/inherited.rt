@@ -205,8 +205,8 @@ fn take_over(
                 loops,
                 ends,
                 before.as_slice(),
+                one,
                 place,
-                accesses_in(ends, one as usize),
             )
         }
     }
@@ -245,19 +245,22 @@ fn with_facts(alloc: Global, first: &[Fact], others: &[Fact]) -> Result<Listed<F
     Ok(Listed::from_vec(both)?)
 }
 
+/// Adds to what is claimed at a block what is known of arrays at the end of one of the blocks before it, where the ends of the others
+/// tell it too and no turn of its loop changes it.
 fn take_accesses(
     arrays: &[Array],
     claims: &mut Vec<Claim>,
     loops: &Loops,
     ends: &[Claim],
     before: &[BlockId],
+    one: BlockId,
     place: BlockId,
-    accesses: &[Access],
 ) -> Result<(), NoMemory>
     ensures { IfOk result (λ _. length claims.new.items ≡ length claims.old.items) }
 {
+    let accesses = accesses_in(ends, one as usize);
     for access in &accesses[..accesses.len().min(MOST)] {
-        if keeps_access(arrays, loops, *access) && all_tell(ends, before, *access) {
+        if keeps_access(arrays, loops, *access) && all_tell(ends, before, one, *access) {
             take_access(claims, place, *access)?;
         }
     }
@@ -328,14 +331,24 @@ fn keeps_access(arrays: &[Array], loops: &Loops, access: Access) -> bool {
     }
 }
 
-fn all_tell(ends: &[Claim], before: &[BlockId], access: Access) -> bool {
+/// Whether the ends of all blocks tell what is known at the end of one of them, where a run comes there.
+fn all_tell(ends: &[Claim], before: &[BlockId], one: BlockId, access: Access) -> bool {
     for block in before {
         let place = *block as usize;
-        if !tell(accesses_in(ends, place), &[access]) && !is_never(facts_in(ends, place)) {
+        if !tells_at(ends, place, *block == one, access) && !is_never(facts_in(ends, place)) {
             return false;
         }
     }
     true
+}
+
+/// Whether an end tells something. One from which that is taken does where it can be found again.
+fn tells_at(ends: &[Claim], place: usize, is_taken: bool, access: Access) -> bool {
+    if is_taken {
+        tell(&[access], &[access])
+    } else {
+        tell(accesses_in(ends, place), &[access])
+    }
 }
 
 fn take_access(claims: &mut Vec<Claim>, block: BlockId, access: Access) -> Result<(), NoMemory>

@@ -1,4 +1,4 @@
-use Rattle.std.proofs.Common.{◌≡◌, ◌+◌, ◌∷◌, List, drop, ap, sym, ◌∙◌}
+use Rattle.std.proofs.Common.{◌≡◌, ◌+◌, ◌∷◌, List, drop, refl, ap, sym, ◌∙◌}
 use Rattle.std.proofs.lemmas.List.{at_drop_more, at_drop_all}
 use Rattle.std.proofs.lemmas.Result.{IfOk-from_err}
 use Rattle.vx_flow.specs.declared.graph.Array.{Array}
@@ -25,29 +25,29 @@ accesses_step arrays fs gs new xs ys zs us later op made rest g y z u m n l =
 
 pub loop-op-preserved : goal.loop-op-preserved
 loop-op-preserved c =
-    let fs = c.loop-op.facts.items in
+    let fs = c.loop-op.facts in
     let xs = c.loop-op.known in
     let ops = c.args.ops.now in
     let i = c.loop-op.op-index in
-    let s1 : c.as_slice-in-loop-op.result.now ≡ xs = c.as_slice-in-loop-op.ensures in
-    let s2 : c.as_slice-in-loop-op-2.result.now ≡ xs = c.as_slice-in-loop-op-2.ensures in
-    let s3 : c.as_slice-in-loop-op-3.result.now ≡ xs = c.as_slice-in-loop-op-3.ensures in
+    let s1 : c.as_slice.result.now ≡ xs = c.as_slice.ensures in
+    let s2 : c.as_slice-in-loop-op.result.now ≡ xs = c.as_slice-in-loop-op.ensures in
+    let s3 : c.as_slice-in-loop-op-2.result.now ≡ xs = c.as_slice-in-loop-op-2.ensures in
     record {
-      facts = facts_step c.args.arrays.now fs c.as_slice.result.now c.learn.new.facts.items xs c.as_slice-in-loop-op.result.now c.as_slice-in-loop-op-2.result.now c.as_slice-in-loop-op-3.result.now c.in_ok-known-2.known _ c.form-form.result (drop (i + 1) ops)
-          c.as_slice.ensures.value s1 s2 s3 c.form-form.ensures c.in_ok-learn.ensures c.in_ok-known-2.ensures
+      facts = facts_step c.args.arrays.now fs fs c.learn.new.facts xs c.as_slice.result.now c.as_slice-in-loop-op.result.now c.as_slice-in-loop-op-2.result.now c.in_ok-known-2.known _ c.form-form.result (drop (i + 1) ops)
+          refl s1 s2 s3 c.form-form.ensures c.in_ok-learn.ensures c.in_ok-known-2.ensures
           ∙ sym (at_drop_more (λ (l : List Op). after_from c.args.arrays.now fs xs l) ops i _ c.loop-op-test.true) ∙ c.loop-op.invariant.facts;
-      accesses = accesses_step c.args.arrays.now fs c.as_slice.result.now c.learn.new.facts.items xs c.as_slice-in-loop-op.result.now c.as_slice-in-loop-op-2.result.now c.as_slice-in-loop-op-3.result.now c.in_ok-known-2.known _ c.form-form.result (drop (i + 1) ops)
-          c.as_slice.ensures.value s1 s2 s3 c.form-form.ensures c.in_ok-learn.ensures c.in_ok-known-2.ensures
+      accesses = accesses_step c.args.arrays.now fs fs c.learn.new.facts xs c.as_slice.result.now c.as_slice-in-loop-op.result.now c.as_slice-in-loop-op-2.result.now c.in_ok-known-2.known _ c.form-form.result (drop (i + 1) ops)
+          refl s1 s2 s3 c.form-form.ensures c.in_ok-learn.ensures c.in_ok-known-2.ensures
           ∙ sym (at_drop_more (λ (l : List Op). accessed_from c.args.arrays.now fs xs l) ops i _ c.loop-op-test.true) ∙ c.loop-op.invariant.accesses;
     }
 
 pub returns-clause-facts : goal.returns-clause-facts
 returns-clause-facts c =
-    c.in_ok-from_vec.ensures ∙ sym (at_drop_all (λ (l : List Op). after_from c.args.arrays.now c.loop-op.facts.items c.loop-op.known l) c.args.ops.now c.loop-op.op-index c.loop-op-test.false) ∙ c.loop-op.invariant.facts
+    c.in_ok-from_vec.ensures ∙ c.into_vec.ensures ∙ sym (at_drop_all (λ (l : List Op). after_from c.args.arrays.now c.loop-op.facts c.loop-op.known l) c.args.ops.now c.loop-op.op-index c.loop-op-test.false) ∙ c.loop-op.invariant.facts
 
 pub returns-clause-accesses : goal.returns-clause-accesses
 returns-clause-accesses c =
-    sym (at_drop_all (λ (l : List Op). accessed_from c.args.arrays.now c.loop-op.facts.items c.loop-op.known l) c.args.ops.now c.loop-op.op-index c.loop-op-test.false) ∙ c.loop-op.invariant.accesses
+    sym (at_drop_all (λ (l : List Op). accessed_from c.args.arrays.now c.loop-op.facts c.loop-op.known l) c.args.ops.now c.loop-op.op-index c.loop-op-test.false) ∙ c.loop-op.invariant.accesses
 
 pub returns-in_err-facts-clause-facts : goal.returns-in_err-facts-clause-facts
 returns-in_err-facts-clause-facts c = IfOk-from_err _ _ c.from_residual.ensures.0

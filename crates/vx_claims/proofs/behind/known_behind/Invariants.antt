@@ -4,6 +4,6 @@ use Rattle.vx_claims.proofs.behind.known_behind.Given as goal
 
 abbrev pub invariant-loop-op : goal.invariant-loop-op
 invariant-loop-op l = record {
-  facts : after_from l.arrays l.facts.items l.known (drop l.op-index l.ops) ≡ after_from l.arrays l.claims l.accesses l.ops;
-  accesses : accessed_from l.arrays l.facts.items l.known (drop l.op-index l.ops) ≡ accessed_from l.arrays l.claims l.accesses l.ops;
+  facts : after_from l.arrays l.facts l.known (drop l.op-index l.ops) ≡ after_from l.arrays l.claims l.accesses l.ops;
+  accesses : accessed_from l.arrays l.facts l.known (drop l.op-index l.ops) ≡ accessed_from l.arrays l.claims l.accesses l.ops;
 }

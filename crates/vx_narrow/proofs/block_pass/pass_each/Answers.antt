@@ -1,4 +1,4 @@
-use Rattle.std.proofs.Common.{◌≡◌, ◌+◌, ◌++◌, ◌∷◌, [], List, drop, ap, sym, ◌∙◌}
+use Rattle.std.proofs.Common.{◌≡◌, ◌+◌, ◌++◌, ◌∷◌, [], List, drop, refl, ap, sym, ◌∙◌}
 use Rattle.std.proofs.lemmas.List.{append_assoc, append-nil, at_drop_more, at_drop_all}
 use Rattle.std.proofs.lemmas.Result.{IfOk-from_err}
 use Rattle.vx_flow.specs.declared.graph.Array.{Array}
@@ -34,33 +34,33 @@ made_step arrays all fs hs new xs ys zs us later op made short rest done more h 
 
 pub loop-op-preserved : goal.loop-op-preserved
 loop-op-preserved c =
-    let fs = c.loop-op.facts.items in
+    let fs = c.loop-op.facts in
     let xs = c.loop-op.known in
     let ops = c.args.ops.now in
     let i = c.loop-op.op-index in
-    let z : c.as_slice-in-loop-op-4.result.now ≡ xs = c.as_slice-in-loop-op-4.ensures in
-    let u : c.as_slice-in-loop-op-5.result.now ≡ xs = c.as_slice-in-loop-op-5.ensures in
-    let k = form_is fs c.as_slice.result.now xs c.as_slice-in-loop-op.result.now _ c.form-form.result c.as_slice.ensures.value c.as_slice-in-loop-op.ensures c.form-form.ensures in
+    let z : c.as_slice-in-loop-op-2.result.now ≡ xs = c.as_slice-in-loop-op-2.ensures in
+    let u : c.as_slice-in-loop-op-3.result.now ≡ xs = c.as_slice-in-loop-op-3.ensures in
+    let k = form_is fs fs xs c.as_slice.result.now _ c.form-form.result refl c.as_slice.ensures c.form-form.ensures in
     record {
-      facts = step c.args.arrays.now (λ a b. after_from c.args.arrays.now a b (drop (i + 1) ops)) fs c.learn.new.facts.items xs c.as_slice-in-loop-op-4.result.now c.as_slice-in-loop-op-5.result.now c.in_ok-known.field-0 _ c.form-form.result z u k c.in_ok-learn.ensures c.in_ok-known.ensures
+      facts = step c.args.arrays.now (λ a b. after_from c.args.arrays.now a b (drop (i + 1) ops)) fs c.learn.new.facts xs c.as_slice-in-loop-op-2.result.now c.as_slice-in-loop-op-3.result.now c.in_ok-known.field-0 _ c.form-form.result z u k c.in_ok-learn.ensures c.in_ok-known.ensures
           ∙ sym (at_drop_more (λ (l : List Op). after_from c.args.arrays.now fs xs l) ops i _ c.loop-op-test.true) ∙ c.loop-op.invariant.facts;
-      accesses = step c.args.arrays.now (λ a b. accessed_from c.args.arrays.now a b (drop (i + 1) ops)) fs c.learn.new.facts.items xs c.as_slice-in-loop-op-4.result.now c.as_slice-in-loop-op-5.result.now c.in_ok-known.field-0 _ c.form-form.result z u k c.in_ok-learn.ensures c.in_ok-known.ensures
+      accesses = step c.args.arrays.now (λ a b. accessed_from c.args.arrays.now a b (drop (i + 1) ops)) fs c.learn.new.facts xs c.as_slice-in-loop-op-2.result.now c.as_slice-in-loop-op-3.result.now c.in_ok-known.field-0 _ c.form-form.result z u k c.in_ok-learn.ensures c.in_ok-known.ensures
           ∙ sym (at_drop_more (λ (l : List Op). accessed_from c.args.arrays.now fs xs l) ops i _ c.loop-op-test.true) ∙ c.loop-op.invariant.accesses;
-      made = made_step c.args.arrays.now c.args.all.now fs c.as_slice-in-loop-op-2.result.now c.learn.new.facts.items xs c.as_slice-in-loop-op-3.result.now c.as_slice-in-loop-op-4.result.now c.as_slice-in-loop-op-5.result.now c.in_ok-known.field-0 _ c.form-form.result c.improved.result (drop (i + 1) ops) c.loop-op.made c.push.new.self
-          c.as_slice-in-loop-op-2.ensures.value c.as_slice-in-loop-op-3.ensures z u k c.improved.ensures c.in_ok-push.ensures.ok c.in_ok-learn.ensures c.in_ok-known.ensures
+      made = made_step c.args.arrays.now c.args.all.now fs fs c.learn.new.facts xs c.as_slice-in-loop-op.result.now c.as_slice-in-loop-op-2.result.now c.as_slice-in-loop-op-3.result.now c.in_ok-known.field-0 _ c.form-form.result c.improved.result (drop (i + 1) ops) c.loop-op.made c.push.new.self
+          refl c.as_slice-in-loop-op.ensures z u k c.improved.ensures c.in_ok-push.ensures.ok c.in_ok-learn.ensures c.in_ok-known.ensures
           ∙ sym (at_drop_more (λ (l : List Op). c.loop-op.made ++ improved_from c.args.arrays.now c.args.all.now fs xs l) ops i _ c.loop-op-test.true) ∙ c.loop-op.invariant.made;
     }
 
 pub returns-clause-facts : goal.returns-clause-facts
-returns-clause-facts c = sym (at_drop_all (λ (l : List Op). after_from c.args.arrays.now c.loop-op.facts.items c.loop-op.known l) c.args.ops.now c.loop-op.op-index c.loop-op-test.false) ∙ c.loop-op.invariant.facts
+returns-clause-facts c = sym (at_drop_all (λ (l : List Op). after_from c.args.arrays.now c.loop-op.facts c.loop-op.known l) c.args.ops.now c.loop-op.op-index c.loop-op-test.false) ∙ c.loop-op.invariant.facts
 
 pub returns-clause-known : goal.returns-clause-known
-returns-clause-known c = sym (at_drop_all (λ (l : List Op). accessed_from c.args.arrays.now c.loop-op.facts.items c.loop-op.known l) c.args.ops.now c.loop-op.op-index c.loop-op-test.false) ∙ c.loop-op.invariant.accesses
+returns-clause-known c = sym (at_drop_all (λ (l : List Op). accessed_from c.args.arrays.now c.loop-op.facts c.loop-op.known l) c.args.ops.now c.loop-op.op-index c.loop-op-test.false) ∙ c.loop-op.invariant.accesses
 
 pub returns-clause-made : goal.returns-clause-made
 returns-clause-made c =
     sym (append-nil c.loop-op.made)
-    ∙ sym (at_drop_all (λ (l : List Op). c.loop-op.made ++ improved_from c.args.arrays.now c.args.all.now c.loop-op.facts.items c.loop-op.known l) c.args.ops.now c.loop-op.op-index c.loop-op-test.false) ∙ c.loop-op.invariant.made
+    ∙ sym (at_drop_all (λ (l : List Op). c.loop-op.made ++ improved_from c.args.arrays.now c.args.all.now c.loop-op.facts c.loop-op.known l) c.args.ops.now c.loop-op.op-index c.loop-op-test.false) ∙ c.loop-op.invariant.made
 
 pub returns-in_err-push-clause-facts : goal.returns-in_err-push-clause-facts
 returns-in_err-push-clause-facts c = IfOk-from_err _ _ c.from_residual.ensures.0
