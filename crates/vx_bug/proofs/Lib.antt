@@ -1,6 +1,8 @@
 pub mod Named
 pub mod Visiting
 pub mod Tasks
+pub mod Marks
+pub mod ByPlace
 pub mod Giving
 pub mod ByCycle
 pub mod FirstCycle

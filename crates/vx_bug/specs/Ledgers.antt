@@ -1,5 +1,5 @@
--- What stands when an operation's turn comes, as the code holds it: a table of homes, and the bookings, the latest first.
-use Rattle.std.specs.Prelude.{◌==◌, ◌&&◌, ℕ, Bool, nat_lt, if◌then◌else◌, Option, Some, None, List, count_by, slice_index_or}
+-- What stands when an operation's turn comes, as the code holds it: a table of homes, and the bookings, the latest last.
+use Rattle.std.specs.Prelude.{◌==◌, ◌&&◌, ℕ, Bool, nat_lt, if◌then◌else◌, Option, Some, None, List, reverse, count_by, slice_index_or}
 use Rattle.vx_isa.specs.declared.operation.UnitKind.{UnitKind}
 use Rattle.vx_isa.specs.Numbers.{Numbers}
 use Rattle.vx_isa.specs.Operations.{same_unit}
@@ -18,7 +18,7 @@ abbrev pub placed : (cluster : ℕ) → (ℕ → Option ℕ) → (value : ℕ) �
 placed cluster homes v u = if u == v then Some cluster else homes u
 
 abbrev pub books_of : Ledger → Books
-books_of l = record { homes = homes_in l.homes.items; bookings = l.booked.bookings.items }
+books_of l = record { homes = homes_in l.homes.items; bookings = reverse l.booked.bookings.items }
 
 -- a booking takes what is asked for on a cluster
 abbrev pub takes : (cluster : ℕ) → Resource → Booking → Bool

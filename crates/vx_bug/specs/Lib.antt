@@ -3,6 +3,7 @@ pub mod Copies
 pub mod Assigned
 pub mod Naming
 pub mod Tasks
+pub mod Marks
 pub mod Booked
 pub mod Ledgers
 pub mod Sources

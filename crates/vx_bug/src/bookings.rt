@@ -1,9 +1,9 @@
 // Bookings: which operations have a cluster, with the issue slots and units that they take there, and the first cycle in
 // which a slot and a unit are left. specs/Ledgers.antt says the same.
 
-ghost use Rattle.std.specs.Prelude.{◌≡◌, IfOk, length, nat_lt, count_by};
+ghost use Rattle.std.specs.Prelude.{◌≡◌, IfOk, length, reverse, nat_lt, count_by};
 ghost use Rattle.vx_bug.specs.Booked.{row_at};
-ghost use Rattle.vx_bug.specs.Clusters.{estimate_in, counts_at, is_free, first_free};
+ghost use Rattle.vx_bug.specs.Clusters.{counts_at, is_free, first_free};
 ghost use Rattle.vx_bug.specs.Ledgers.{takes, is_left};
 
 use crate::booked::{Booked, row_at, rows_from};
@@ -36,24 +36,6 @@ pub enum Resource {
     UnitOf(UnitKind),
 }
 
-/// The estimate of the operation at a place, 0 where it has no booking.
-pub(crate) fn estimate_in(bookings: &[Booking], place: u32) -> u32
-    ensures { result ≡ estimate_in bookings.now place }
-{
-    let mut rest = bookings;
-    'search: loop {
-        match rest.split_first() {
-            None => return 0,
-            Some((booking, others)) => {
-                if booking.place == place {
-                    return booking.estimate;
-                }
-                rest = others;
-            }
-        }
-    }
-}
-
 /// The first cycle from one on in which an issue slot of the cluster and a unit are not booked. A cycle past `u64` is want
 /// of memory.
 #[tactic(auto, using(crate::proofs::ByCycle::first_open_free))]
@@ -64,7 +46,7 @@ pub(crate) fn free_cycle(
     unit: UnitKind,
     from: u64,
 ) -> Result<u64, NoMemory>
-    ensures { IfOk result (λ cycle. cycle ≡ first_free (length booked.now.bookings.items) (is_free machine.now booked.now.bookings.items cluster unit) from) }
+    ensures { IfOk result (λ cycle. cycle ≡ first_free (length (reverse booked.now.bookings.items)) (is_free machine.now (reverse booked.now.bookings.items) cluster unit) from) }
 {
     let rows = rows_from(booked.rows.as_slice(), from);
     let wait = first_open(machine, rows, booked.bookings.len(), cluster, unit);

@@ -1,10 +1,12 @@
 // The order in which the operations of a trace take their clusters: from the last operation to the first, the writers of
 // an operation's operands before it (Ellis, 1985). The clause of `listed` is the definition of specs/Clusters.antt.
 
-ghost use Rattle.std.specs.Prelude.{◌≡◌, ◌<◌, ◌≤◌, ◌+◌, ◌*◌, ◌++◌, IfOk, IfSome, IfNone, Some, None, nat_eq, slice_get};
+ghost use Rattle.std.specs.Prelude.{◌≡◌, ◌<◌, ◌≤◌, ◌+◌, ◌*◌, ◌++◌, ◌||◌, ℕ, IfOk, IfSome, IfNone, OnOk, Some, None, nat_eq, length, slice_get};
 ghost use Rattle.std.specs.List.{list_any, flat_map};
 ghost use Rattle.vx_linear.specs.Writers.{writer};
 ghost use Rattle.vx_bug.specs.Clusters.{some_of, writers_of, visit, listed};
+ghost use Rattle.vx_flow.specs.Rows.{is_marked};
+ghost use Rattle.vx_bug.specs.Marks.{AreMarks};
 ghost use Rattle.vx_bug.specs.Tasks.{done, all_done, entries, turns, weight, all_weight};
 
 use crate::values::{reads_of, writer};
@@ -19,11 +21,12 @@ pub(crate) fn listed(alloc: Global, trace: &Trace) -> Result<Listed<u32>, NoMemo
     ensures { IfOk result (λ order. order ≡ listed trace.now) }
 {
     let mut order = Listed::new(alloc);
+    let mut marks = Vec::new(alloc);
     let depth = trace.ops.len() + 1;
     let mut place = trace.ops.len() as u32;
     'walk: while place > 0 {
         place -= 1;
-        visit(alloc, trace, depth, place, &mut order)?;
+        visit(alloc, trace, depth, place, &mut order, &mut marks)?;
     }
     Ok(order)
 }
@@ -46,33 +49,44 @@ fn visit(
     depth: usize,
     place: u32,
     order: &mut Listed<u32>,
+    marks: &mut Vec<bool>,
 ) -> Result<(), NoMemory>
-    ensures { IfOk result (λ _. order.new ≡ visit depth trace.now place order.old) }
+    requires { AreMarks marks.old.items order.old }
+    ensures order { IfOk result (λ _. order.new ≡ visit depth trace.now place order.old) }
+    ensures marks { IfOk result (λ _. AreMarks marks.new.items order.new) }
 {
     let mut tasks = Vec::new(alloc);
     tasks.push(Task::Enter { depth, place })?;
     'turns: loop {
         match tasks.pop() {
             None => return Ok(()),
-            Some(task) => turn(trace, task, &mut tasks, order)?,
+            Some(task) => turn(trace, task, &mut tasks, order, marks)?,
         }
     }
 }
 
 /// Does a task, from which others may come.
+#[tactic(auto, using(crate::proofs::Marks::one_marked))]
 fn turn(
     trace: &Trace,
     task: Task,
     tasks: &mut Vec<Task>,
     order: &mut Listed<u32>,
+    marks: &mut Vec<bool>,
 ) -> Result<(), NoMemory>
+    requires { AreMarks marks.old.items order.old }
     ensures done { IfOk result (λ _. all_done trace.now tasks.new.items order.new ≡ all_done trace.now tasks.old.items (done trace.now task order.old)) }
     ensures fewer { IfOk result (λ _. all_weight tasks.new.items < all_weight tasks.old.items + weight task) }
+    ensures marks { IfOk result (λ _. AreMarks marks.new.items order.new) }
 {
     match task {
-        Task::Enter { depth, place } => enter(trace, depth, place, tasks, order),
+        Task::Enter { depth, place } => {
+            enter(trace, depth, place, tasks, order, marks.as_slice())?;
+            Ok(())
+        }
         Task::Leave(place) => {
             order.push(place)?;
+            mark(marks, place)?;
             Ok(())
         }
     }
@@ -85,14 +99,16 @@ fn enter(
     place: u32,
     tasks: &mut Vec<Task>,
     order: &Listed<u32>,
+    marks: &[bool],
 ) -> Result<(), NoMemory>
+    requires { AreMarks marks.now order.now }
     ensures done { IfOk result (λ _. all_done trace.now tasks.new.items order.now ≡ all_done trace.now tasks.old.items (visit depth trace.now place order.now)) }
     ensures fewer { IfOk result (λ _. all_weight tasks.new.items < all_weight tasks.old.items + turns depth) }
 {
     if depth == 0 {
         return Ok(());
     }
-    if is_listed(order, place) {
+    if is_listed(order, marks, place) {
         return Ok(());
     }
     tasks.push(Task::Leave(place))?;
@@ -154,13 +170,36 @@ fn enter_writer(
     }
 }
 
-fn is_listed(order: &Listed<u32>, place: u32) -> bool
+/// Whether a place is listed, by its mark.
+#[tactic(auto, using(crate::proofs::Marks::mark_is, crate::proofs::Marks::no_mark))]
+fn is_listed(order: &Listed<u32>, marks: &[bool], place: u32) -> bool
+    requires { AreMarks marks.now order.now }
     ensures { result ≡ list_any (nat_eq place) order.now }
 {
-    for other in order.as_slice() {
-        if place == *other {
-            return true;
-        }
+    match marks.get(place as usize) {
+        Some(mark) => *mark,
+        None => false,
     }
-    false
+}
+
+/// Marks a place.
+#[tactic(auto, using(crate::proofs::Marks::set_mark))]
+fn mark(marks: &mut Vec<bool>, place: u32) -> Result<(), NoMemory>
+    ensures { OnOk result ((i : ℕ) → is_marked marks.new.items i ≡ (nat_eq i place || is_marked marks.old.items i)) }
+{
+    let at = place as usize;
+    lengthen(marks, at)?;
+    marks[at] = true;
+    Ok(())
+}
+
+/// Makes the list of marks have one for a place.
+fn lengthen(marks: &mut Vec<bool>, at: usize) -> Result<(), NoMemory>
+    ensures there { OnOk result (at < length marks.new.items) }
+    ensures same { (i : ℕ) → is_marked marks.new.items i ≡ is_marked marks.old.items i }
+{
+    'grow: while marks.len() <= at {
+        marks.push(false)?;
+    }
+    Ok(())
 }

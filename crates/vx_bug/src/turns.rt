@@ -1,12 +1,13 @@
 // The turn of an operation: its estimate on a cluster, and what stands after it has taken one. specs/Clusters.antt says the
 // same.
 
-ghost use Rattle.std.specs.Prelude.{◌≡◌, ◌++◌, ◌+◌, ℕ, IfOk, OnOk, Some, None, if◌then◌else◌};
+ghost use Rattle.std.specs.Prelude.{◌≡◌, ◌++◌, ◌+◌, ℕ, IfOk, OnOk, Some, None, reverse, if◌then◌else◌};
 ghost use Rattle.vx_bug.specs.Clusters.{some_of, general_reads, general_writes, is_across, way_from, written_at, available, cycle_of, estimate_of, with_homes, after_turn};
 ghost use Rattle.vx_bug.specs.Ledgers.{homes_in, books_of};
 ghost use Rattle.vx_bug.specs.Sources.{there_on, earliest_on, IsSource, AreSources};
 
-use crate::bookings::{Booking, estimate_in, free_cycle};
+use crate::booked::Booked;
+use crate::bookings::{Booking, free_cycle};
 use crate::homes::{give_home, home_in};
 use crate::ledger::Ledger;
 use crate::values::{general_reads, general_result, is_across, reads_of, writer};
@@ -59,12 +60,12 @@ fn way_from(machine: &Machine, home: Option<u32>, cluster: u32) -> u32
     }
 }
 
-fn written_at(bookings: &[Booking], above: Option<u32>) -> u32
-    ensures { result ≡ written_at bookings.now above }
+fn written_at(booked: &Booked, above: Option<u32>) -> u32
+    ensures { result ≡ written_at (reverse booked.now.bookings.items) above }
 {
     match above {
         None => 0,
-        Some(above) => estimate_in(bookings, above),
+        Some(above) => booked.estimate(above),
     }
 }
 
@@ -84,7 +85,7 @@ fn find_source(turn: &Turn, ledger: &Ledger, value: Value) -> Source
     ensures { (cluster : ℕ) → result.written + way_from turn.now.machine result.home cluster ≡ available turn.now.machine turn.now.trace.now (books_of ledger.now) turn.now.place turn.now.op.now cluster value }
 {
     let above = writer(turn.trace.ops.as_slice(), turn.place, value);
-    let written = written_at(ledger.booked.bookings.as_slice(), above);
+    let written = written_at(&ledger.booked, above);
     let home = read_from(turn, ledger, value);
     Source { written, home }
 }

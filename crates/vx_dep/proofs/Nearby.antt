@@ -1,5 +1,5 @@
 -- What is listed by values and kinds has all that is near to a lower operation; behind the others it has no delay.
-use Rattle.std.proofs.Common.{◌≡◌, ◌≤◌, ◌⊎◌, inl, inr, ◌+◌, ◌%◌, ℕ, refl, sym, ◌∙◌, ap, arith, subst, Bool, true, false, not, ◌&&◌, ◌||◌, nat_eq, Some, None, slice_get, length, OnOk, IfOk, Result, Ok, Err, List, [], ◌∷◌, ◌++◌}
+use Rattle.std.proofs.Common.{◌≡◌, ◌≤◌, ◌⊎◌, inl, inr, ◌+◌, ◌%◌, ℕ, refl, sym, ◌∙◌, arith, subst, Bool, true, false, not, ◌&&◌, ◌||◌, nat_eq, Some, slice_get, length, OnOk, IfOk, Result, Ok, Err, List, [], ◌∷◌, ◌++◌}
 use Rattle.std.proofs.lemmas.Bool.{false≢true, true≢false, eqb-true, eq-eqb}
 use Rattle.vx_flow.specs.Effects.{IsIn}
 use Rattle.vx_flow.proofs.Members.{in_left, in_last}
@@ -37,9 +37,6 @@ module _ (keys : List Key) (b : Key) where
   pub collected_behind : (These : ℕ → Type 0) (front middle after : List ℕ) → AreCollected keys b These front middle → ((i : ℕ) → IsIn i middle → IsIn i after) → AreCollected keys b These front after
   collected_behind These front middle after so keeps = record { keeps = λ i h. keeps i (so.keeps i h); has = λ i a h f n. keeps i (so.has i a h f n) }
 
-  pub none_collected : (These : ℕ → Type 0) (before after : List ℕ) → after ≡ before → ((i : ℕ) → These i → ⊥) → AreCollected keys b These before after
-  none_collected These before after e none = record { keeps = λ i h. subst (IsIn i) (sym e) h; has = λ i a h f n. absurd (none i h) }
-
   pub four_writers : (near : Near) (one two three four five : List ℕ) → AreCollected keys b (IsOn near.writers (b.written % 128)) one two → AreCollected keys b (IsOn near.writers (b.first % 128)) two three
       → AreCollected keys b (IsOn near.writers (b.second % 128)) three four → AreCollected keys b (IsOn near.writers (b.third % 128)) four five → WritersCollected keys near b one five
   four_writers near one two three four five p q r s = record {
@@ -58,16 +55,7 @@ module _ (keys : List Key) (b : Key) where
     observables = collected_before _ one four five (λ i h. r.keeps i (q.keeps i (p.keeps i h))) s;
   }
 
-  pub if_asked : (asks : Bool) (chains : (i : ℕ) → Type 0) (before after : List ℕ) → asks ≡ true → AreCollected keys b chains before after → AreCollected keys b (λ i. (asks ≡ true) × chains i) before after
-  if_asked asks chains before after e so = record { keeps = so.keeps; has = λ i a h f n. so.has i a h.1 f n }
-
   -- one place
-
-  pub no_entry : (place : ℕ) (before : List ℕ) → slice_get keys place ≡ None → AreCollected keys b (λ i. i ≡ place) before before
-  no_entry place before none = record { keeps = λ i h. h; has = λ i a e f n. let g : Some a ≡ None = sym f ∙ ap (slice_get keys) e ∙ none in absurd cc }
-
-  pub not_near : (place : ℕ) (x : Key) (before : List ℕ) → slice_get keys place ≡ Some x → is_near x b ≡ false → AreCollected keys b (λ i. i ≡ place) before before
-  not_near place x before there far = record { keeps = λ i h. h; has = λ i a e f n. let g : Some a ≡ Some x = sym f ∙ ap (slice_get keys) e ∙ there in let h : a ≡ x = cc in absurd (true≢false (sym n ∙ ap (λ y. is_near y b) h ∙ far)) }
 
   pub one_near : (place : ℕ) (before after : List ℕ) → after ≡ before ++ place ∷ [] → AreCollected keys b (λ i. i ≡ place) before after
   one_near place before after e = record {
@@ -123,10 +111,6 @@ both_true false y e = absurd (false≢true e)
 not_true : (x : Bool) → not x ≡ true → x ≡ false
 not_true true e = absurd (false≢true e)
 not_true false e = refl
-
-not_false : (x : Bool) → not (not x) ≡ false → x ≡ false
-not_false true e = absurd (true≢false e)
-not_false false e = refl
 
 of_not : (x : Bool) → not (not x) ≡ true → x ≡ true
 of_not true e = refl

@@ -1,10 +1,6 @@
 mod Masks
-<<<<<<< ours
 pub mod Products
-=======
-mod Products
 mod Factors
->>>>>>> theirs
 mod NearPlaces
 pub mod Congruences
 pub mod Residues

@@ -11,4 +11,7 @@ walk-preserved c =
     let deep : c.len-depth.result + 1 ≡ suc (length t.ops) = omega (arith, c.len-depth.ensures.len) in
     let turn : c.visit.new.order ≡ visit (c.len-depth.result + 1) t (c.walk.place - 1) c.walk.order = search rules in
     let so : c.visit.new.order ≡ visit (suc (length t.ops)) t (c.walk.place - 1) c.walk.order = turn ∙ ap (λ d. visit d t (c.walk.place - 1) c.walk.order) deep in
-    ap (visit_each (visit (suc (length t.ops)) t) (reverse (numbers 0 (c.walk.place - 1)))) so ∙ sym (walk_more (visit (suc (length t.ops)) t) c.walk.place c.walk.order some) ∙ c.walk.invariant
+    record {
+      left = ap (visit_each (visit (suc (length t.ops)) t) (reverse (numbers 0 (c.walk.place - 1)))) so ∙ sym (walk_more (visit (suc (length t.ops)) t) c.walk.place c.walk.order some) ∙ c.walk.invariant.left;
+      marks = c.in_ok-visit.ensures.marks;
+    }
